@@ -22,7 +22,7 @@ use Rattle.ats_network.proofs.SenderLemmas.{sender_keeps}
 use Rattle.ats_certificate.specs.declared.row.Row.{Row}
 use Rattle.ats_trace.specs.Journey.{legs_at}
 use Rattle.ats_trace.proofs.Legs.{concat-legs_of, place_first, place_is, place_next, place_of, place_within}
-use Rattle.ats_route_law.specs.Laws.{in_front_of, port_to}
+use Rattle.ats_route_law.specs.Laws.{before_hop, in_front_of, port_to, ports_of_leg}
 use Rattle.ats_route_law.proofs.Before.{port_before_is_one}
 use Rattle.ats_tally.proofs.Paths.{paths_apart}
 use Rattle.ats_buffer.specs.Buffer.{most_bits, stay_at, way_by, way_over, way_behind, way_to, share_at, shares_at}
@@ -213,11 +213,25 @@ same_stream network streams n stream same h is =
 
 -- to the first port of a branch it is that over the port which leads to where the branch begins
 front_of_branch : (s : Sender) (leg : ℕ) → 1 ≤ leg
-    → in_front_of s leg 0 ≡ Some (port_to s (get_or s.branches (leg - 1) no_branch))
+    → in_front_of s leg 0 ≡ port_to s (get_or s.branches (leg - 1) no_branch)
 front_of_branch s zero later = absurd (omega arith)
 front_of_branch s (suc n) later =
     let same : n ≡ suc n - 1 = omega arith in
-    ap (λ (k : ℕ). Some (port_to s (get_or s.branches k no_branch))) same
+    ap (λ (k : ℕ). port_to s (get_or s.branches k no_branch)) same
+
+-- to the talker nothing leads
+pub none_leads_there : (network : DeclaredNetwork) (rows : List Row) (streams : List DeclaredStream) (n leg : ℕ)
+    (stream : DeclaredStream) (b : Branch) → streams ≡ network.streams → n < length network.streams
+    → stream ≡ get_or streams n stream → 1 ≤ leg → b ≡ get_or stream.branches (leg - 1) no_branch → b.hop ≡ 0
+    → 0 ≡ way_behind network rows (sender_at network n) (in_front_of (sender_at network n) leg 0)
+none_leads_there network rows streams n leg stream b same h read later is first =
+    let s : Sender = sender_at network n in
+    let there : b ≡ get_or s.branches (leg - 1) no_branch =
+    is ∙ ap (λ (x : DeclaredStream). get_or x.branches (leg - 1) no_branch)
+    (same_stream network streams n stream same h read)
+    ∙ ap (λ (x : Sender). get_or x.branches (leg - 1) no_branch) (sym (stream_is network n h)) in
+    sym (ap (way_behind network rows s) (front_of_branch s leg later ∙ ap (port_to s) (sym there)
+    ∙ ap (before_hop (ports_of_leg s b.leg)) first))
 
 -- the hop of this port
 pub record LeadsThere (network : DeclaredNetwork) (n leg : ℕ) (b : Branch) : Type 0 where
@@ -229,8 +243,8 @@ pub record LeadsThere (network : DeclaredNetwork) (n leg : ℕ) (b : Branch) : T
 
 leads_there : (network : DeclaredNetwork) (n leg : ℕ) (b : Branch) → IsNetwork network
     → n < length network.streams → 1 ≤ leg → leg ≤ length (sender_at network n).branches
-    → b ≡ get_or (stream_at network n).branches (leg - 1) no_branch → LeadsThere network n leg b
-leads_there network n leg b net h later within is =
+    → b ≡ get_or (stream_at network n).branches (leg - 1) no_branch → 1 ≤ b.hop → LeadsThere network n leg b
+leads_there network n leg b net h later within is behind =
     let s : Sender = sender_at network n in
     let legs : List (List ℕ) = legs_at network n in
     let keeps : IsSender network.topology s = stream_keeps network n net h in
@@ -239,21 +253,23 @@ leads_there network n leg b net h later within is =
     let begins : BeginsEarlier legs (1 + (leg - 1)) b =
     subst (BeginsEarlier legs (1 + (leg - 1))) (sym same)
     (begins_at legs 1 s.branches (leg - 1) keeps.branches.begin (omega (arith, later, within))) in
+    let hop_is : b.hop ≡ suc (b.hop - 1) = omega (arith, behind) in
     record {
       in_legs = omega (arith, begins.earlier, later, within);
-      later = begins.later;
-      in_leg = omega (arith, begins.within, begins.later);
-      front = front_of_branch s leg later ∙ ap (λ (x : Branch). Some (port_to s x)) (sym same);
+      later = behind;
+      in_leg = omega (arith, begins.within, behind);
+      front = front_of_branch s leg later ∙ ap (port_to s) (sym same)
+          ∙ ap (before_hop (ports_of_leg s b.leg)) hop_is;
     }
 
 pub leads_by : (network : DeclaredNetwork) (streams : List DeclaredStream) (n leg : ℕ) (stream : DeclaredStream)
     (b : Branch) → IsNetwork network → streams ≡ network.streams → n < length network.streams
     → stream ≡ get_or streams n stream → 1 ≤ leg → leg ≤ length (sender_at network n).branches
-    → b ≡ get_or stream.branches (leg - 1) no_branch → LeadsThere network n leg b
-leads_by network streams n leg stream b net same h read later within is =
+    → b ≡ get_or stream.branches (leg - 1) no_branch → 1 ≤ b.hop → LeadsThere network n leg b
+leads_by network streams n leg stream b net same h read later within is behind =
     leads_there network n leg b net h later within
     (is ∙ ap (λ (s : DeclaredStream). get_or s.branches (leg - 1) no_branch)
-    (same_stream network streams n stream same h read))
+    (same_stream network streams n stream same h read)) behind
 
 -- so the way over this port is that to the leg
 pub way_to_branch : (network : DeclaredNetwork) (rows : List Row) (n leg : ℕ) (b : Branch) (port class way : ℕ)

@@ -102,7 +102,7 @@ fn add_leg(
 }
 
 // By how much a stream's ways to the first port of a leg differ, over the port that leads to the bridge where the leg
-// begins; nothing leads to where the trunk does.
+// begins; nothing leads to the talker, where the trunk does and branches may.
 fn way_to_leg(network: &Network, rows: &RowTable, stream: u32, leg: u32) -> u128
     requires stream { stream < length network.now.streams }
     requires leg { leg ≤ length (sender_at network.now stream).branches }
@@ -115,6 +115,9 @@ fn way_to_leg(network: &Network, rows: &RowTable, stream: u32, leg: u32) -> u128
         return 0;
     }
     let branch = network.streams()[stream as usize].branch(leg);
+    if branch.hop == 0 {
+        return 0;
+    }
     let port = network.sender_leg(stream, branch.leg)[branch.hop as usize - 1];
     let class = class_of(network, stream, branch.leg, branch.hop - 1);
     way_over(network, rows, port, class)

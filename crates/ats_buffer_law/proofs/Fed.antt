@@ -6,7 +6,6 @@ use Rattle.ats_num.specs.declared.time.TheConstants.{PS_PER_SECOND}
 use Rattle.ats_facts.proofs.Lists.{all_right}
 use Rattle.ats_streams.specs.Branches.{leads_of, leg_at, legs_of}
 use Rattle.ats_streams.proofs.BranchLemmas.{route-at}
-use Rattle.ats_network.specs.Path.{IsValidPath}
 use Rattle.ats_network.specs.Bridges.{MeetAtBridge}
 use Rattle.ats_network.specs.Network.{DeclaredNetwork}
 use Rattle.ats_network.specs.Sender.{Sender}
@@ -24,29 +23,30 @@ use Rattle.ats_trace.specs.Run.{releases_of}
 use Rattle.ats_trace.specs.Talker.{start_of, talker_of, KeepsBuckets}
 use Rattle.ats_trace.specs.Ways.{listener_count, route_to}
 use Rattle.ats_soundness_law.proofs.Bits.{sum_by-map, hop_weight, frames_weight}
-use Rattle.ats_soundness_law.proofs.Bridge.{bridge_fed}
 use Rattle.ats_soundness_law.proofs.Journeys.{StandsAt, leg_listener, listeners_many, route_starts, stands_at}
 use Rattle.ats_soundness_law.proofs.Known.{Case}
 use Rattle.ats_soundness_law.proofs.Offered.{IsFed}
-use Rattle.ats_soundness_law.proofs.Paths.{first_station, later_bridges, sender_is}
-use Rattle.ats_soundness_law.proofs.Station.{station_fed}
+use Rattle.ats_soundness_law.proofs.Paths.{later_bridges, sender_is}
+use Rattle.ats_soundness_law.proofs.Node.{port_fed}
 use Rattle.ats_soundness_law.proofs.Streams.{stream_exists}
+use Rattle.ats_buffer_law.specs.Laws.{BridgeKeeps}
 
--- where the talker keeps its buckets, each port of a path is fed
+-- where the talker keeps its buckets, each port of a path is fed, where the bridge that it leaves keeps its own
 by_path : (network : DeclaredNetwork) (run : List Travel) → Case ats_judge bucket_rule network run → (path : List ℕ)
-    → IsValidPath network.topology path → AllNeighbours (MeetAtBridge network.topology) path
+    → AllNeighbours (MeetAtBridge network.topology) path
     → KeepsBuckets network (releases_of run) (start_of network.topology.ports path)
-    → All (λ q. IsFed bucket_rule network run q) path
-by_path network run c [] valid meet keeps = All-nil (λ q. IsFed bucket_rule network run q)
-by_path network run c (p ∷ path) valid meet keeps =
-    All-cons (λ q. IsFed bucket_rule network run q) p path
-    (station_fed network run p c (first_station network.topology p path valid) keeps)
-    (λ k d h. bridge_fed network run (get_or path k d) c (later_bridges network.topology p path meet k d h))
+    → All (λ q. BridgeKeeps network run q → IsFed bucket_rule network run q) path
+by_path network run c [] meet keeps = All-nil (λ q. BridgeKeeps network run q → IsFed bucket_rule network run q)
+by_path network run c (p ∷ path) meet keeps =
+    All-cons (λ q. BridgeKeeps network run q → IsFed bucket_rule network run q) p path
+    (λ bridge. port_fed network run p c keeps)
+    (λ k d h bridge. port_fed network run (get_or path k d) c
+    (bridge (later_bridges network.topology p path meet k d h)))
 
 -- so each port of a stream is
 pub fed_at : (network : DeclaredNetwork) (run : List Travel) → Case ats_judge bucket_rule network run → (i : ℕ)
     → i < length network.streams → KeepsBuckets network (releases_of run) (talker_of network i)
-    → (q : ℕ) → uses q (sender_at network i) ≡ true → IsFed bucket_rule network run q
+    → (q : ℕ) → uses q (sender_at network i) ≡ true → BridgeKeeps network run q → IsFed bucket_rule network run q
 fed_at network run c i h keeps q used =
     let s : Sender = sender_at network i in
     let is : IsSender network.topology s = sender_is network c.net i (stream_exists network i h) in
@@ -54,14 +54,14 @@ fed_at network run c i h keeps q used =
     let m : ℕ = stands.leg in
     let within : m < listener_count s = leg_listener s q m stands.hop stands.at in
     let own : List ℕ = leg_at (legs_of s.ports s.branches) m in
-    let along : All (λ p. IsFed bucket_rule network run p) (route_to s m) =
-    by_path network run c (route_to s m) (is.valid m [] within) (is.bridges m [] within)
+    let Fed : ℕ → Type 0 = λ (p : ℕ). BridgeKeeps network run p → IsFed bucket_rule network run p in
+    let along : All Fed (route_to s m) =
+    by_path network run c (route_to s m) (is.bridges m [] within)
     (subst (KeepsBuckets network (releases_of run)) (sym (route_starts network.topology s m is within)) keeps) in
-    let there : All (λ p. IsFed bucket_rule network run p) own =
-    all_right (λ p. IsFed bucket_rule network run p) (leg_at (leads_of s.ports s.branches) m) own
-    (subst (All (λ p. IsFed bucket_rule network run p)) (route-at s.ports s.branches m [] (listeners_many s m within))
-    along) in
-    subst (λ (p : ℕ). IsFed bucket_rule network run p) stands.at.is (there stands.hop 0 stands.at.in_leg)
+    let there : All Fed own =
+    all_right Fed (leg_at (leads_of s.ports s.branches) m) own
+    (subst (All Fed) (route-at s.ports s.branches m [] (listeners_many s m within)) along) in
+    subst Fed stands.at.is (there stands.hop 0 stands.at.in_leg)
 
 -- the bits of a stream that became eligible at a fed port in a window of time are within its rate and burst
 pub fed_window : (network : DeclaredNetwork) (run : List Travel) (port i : ℕ) (from to : ℕ)

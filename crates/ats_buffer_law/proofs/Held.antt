@@ -13,16 +13,21 @@ use Rattle.ats_network.specs.Senders.{sender_at}
 use Rattle.ats_certificate.specs.Certificate.{Holds}
 use Rattle.ats_certificate.specs.declared.row.Row.{Row}
 use Rattle.ats_group.specs.Judge.{ats_judge, bucket_rule}
+use Rattle.ats_topology.specs.Port.{port_at}
 use Rattle.ats_port_law.proofs.Senders.{no_stream, stream_at, is_stream}
 use Rattle.ats_port_law.proofs.Sums.{sum_by-le-all, sum_by-none, sum_by-filter, sum_by-keys}
 use Rattle.ats_port_law.proofs.Used.{used_place}
 use Rattle.ats_trace.specs.Journey.{Travel, class_at}
 use Rattle.ats_trace.specs.Projections.{Crossing, crossings_from, crossings_by}
+use Rattle.ats_trace.specs.Run.{releases_of}
+use Rattle.ats_trace.specs.Talker.{KeepsBuckets, talker_of}
+use Rattle.ats_soundness_law.specs.Sound.{BeginAtStations}
 use Rattle.ats_soundness_law.proofs.Along.{hop_of}
 use Rattle.ats_soundness_law.proofs.Known.{Case, ats_case, IsKnown}
+use Rattle.ats_soundness_law.proofs.Node.{bridge_keeps}
 use Rattle.ats_buffer.specs.Occupancy.{is_there, is_held, no_row, row_at}
 use Rattle.ats_buffer.specs.Buffer.{has_class, share_at, window_at, buffer_at}
-use Rattle.ats_buffer_law.specs.Laws.{TalkersKeepBuckets, BuffersHold, PeaksFit}
+use Rattle.ats_buffer_law.specs.Laws.{NodesKeepBuckets, TalkersKeepBuckets, BuffersHold, PeaksFit, StationsAreAsked}
 use Rattle.ats_buffer_law.proofs.Came.{all_known}
 use Rattle.ats_buffer_law.proofs.Fed.{fed_at}
 use Rattle.ats_buffer_law.proofs.Windows.{OfStream, held_weight, within_window}
@@ -99,7 +104,7 @@ rounded rate window burst bits h = omega (arith, h)
 -- each stream has at most its share there
 share_holds : (network : DeclaredNetwork) (rows : List Row) (run : List Travel) (port class time : ℕ)
     → Case ats_judge bucket_rule network run → Holds network rows → 1 ≤ class
-    → TalkersKeepBuckets network run port class → (i : ℕ) → i < length network.streams
+    → NodesKeepBuckets network run port class → (i : ℕ) → i < length network.streams
     → sum_by (λ (c : Crossing). cond (c.sent.sender == i) c.sent.bits 0) (held network run port class time)
     ≤ cond (has_class port class (get_or network.streams i no_stream))
     (share_at network rows port class (get_or network.streams i no_stream)) 0
@@ -119,7 +124,9 @@ share_holds network rows run port class time c holds some keep i h =
             exists = h;
             some = some;
             ranked = ranked;
-            fed = fed_at network run c i h (keep i h ranked);
+            fed = fed_at network run c i h (keep i h ranked).talker;
+            here = (keep i h ranked).here;
+            before = (keep i h ranked).before;
           } in
           let Within : Sender → Type 0 = λ (x : Sender).
           PS_PER_SECOND * sum_by (held_weight i port time) (crossings_from network 0 run)
@@ -164,6 +171,23 @@ buffers_hold network rows run port class net holds legal some keep time =
     omega (arith, one))) in
     let shares = sum_by-filter (share_at network rows port class) (has_class port class) network.streams in
     omega (arith, all, shares)
+
+-- where no bridge has frames of its own, the talkers alone are asked
+pub talkers_keep : (network : DeclaredNetwork) (run : List Travel) (port class : ℕ) → BeginAtStations network
+    → TalkersKeepBuckets network run port class → NodesKeepBuckets network run port class
+talkers_keep network run port class stations talkers i h ranked = record {
+  talker = talkers i h ranked;
+  here = λ bridge.
+      bridge_keeps bucket_rule network (releases_of run) (port_at network.topology.ports port).from stations bridge;
+  before = λ q is bridge. bridge_keeps bucket_rule network (releases_of run) (port_at network.topology.ports q).from
+      stations bridge;
+}
+
+pub stations_are_asked : StationsAreAsked
+stations_are_asked network run port class stations = (
+  λ keep. λ i h ranked. (keep i h ranked).talker,
+  λ talkers. talkers_keep network run port class stations talkers,
+)
 
 pub peaks_fit : PeaksFit
 peaks_fit network rows run peaks net holds legal are n h keep =

@@ -3,6 +3,7 @@ pub mod Crossed
 pub mod Fed
 pub mod Held
 pub mod OnRoutes
+pub mod OwnFrameProofs
 pub mod Passed
 pub mod Places
 pub mod Sent

@@ -6,12 +6,9 @@ use Rattle.std.proofs.lemmas.Bool.{cond-false}
 use Rattle.std.proofs.lemmas.List.Sums.{sum_by-append}
 use Rattle.ats_num.specs.Wire.{bits_of}
 use Rattle.ats_topology.specs.Port.{port_at}
-use Rattle.ats_topology.specs.Topology.{IsStationAt}
 use Rattle.ats_network.specs.Sender.{Sender}
-use Rattle.ats_network.specs.Bridges.{IsBridgeAt}
 use Rattle.ats_network.specs.Network.{DeclaredNetwork, IsNetwork}
 use Rattle.ats_network.specs.Senders.{sender_at, IsSender, AllNeighbours}
-use Rattle.ats_network.specs.Path.{IsValidPath}
 use Rattle.ats_group.specs.declared.verdict.Verdict.{Verdict}
 use Rattle.ats_group.specs.declared.verdict.Verdict.TheVariants.{Eligible, Late, Size}
 use Rattle.ats_group.specs.Judge.{ats_judge, bucket_rule}
@@ -19,6 +16,7 @@ use Rattle.ats_group_law.proofs.WindowBits.{bits_in, bits_in-inside}
 use Rattle.ats_port_law.proofs.Sums.{sum_by-none}
 use Rattle.ats_streams.specs.Branches.{legs_of}
 use Rattle.ats_trace.specs.Journey.{Leg, Travel, IsJourney, IsWay, class_at, legs_in}
+use Rattle.ats_trace.specs.Talker.{start_of, talker_of}
 use Rattle.ats_trace.specs.Ways.{listener_count, route_to, way_to}
 use Rattle.ats_trace.specs.Projections.{Hop, Crossing, Handed, transmission_of, crossing_at, crossings_along}
 use Rattle.ats_trace.specs.Projections.{handed_along, journey_crossings, journey_handed, crossings_from, handed_from}
@@ -27,10 +25,10 @@ use Rattle.ats_trace.specs.HopRecord.{HopRecord}
 use Rattle.ats_trace.specs.declared.journey.Ending.{Ending}
 use Rattle.ats_soundness_law.specs.Sound.{IsEligibleBy}
 use Rattle.ats_soundness_law.proofs.Journeys.{IsAt, each_hop, each_on_route, each_was_sent, journey_route}
-use Rattle.ats_soundness_law.proofs.Journeys.{journey_sender, leg_listener, route_apart, route_handed-le}
+use Rattle.ats_soundness_law.proofs.Journeys.{journey_sender, leg_listener, route_apart, route_handed-le, route_starts}
 use Rattle.ats_soundness_law.proofs.Known.{Case}
 use Rattle.ats_soundness_law.proofs.Routes.{OnRoute}
-use Rattle.ats_soundness_law.proofs.Paths.{not_both, first_station, neighbours_with, port_before}
+use Rattle.ats_soundness_law.proofs.Paths.{neighbours_with, port_before}
 use Rattle.ats_soundness_law.proofs.Paths.{port_before-is}
 use Rattle.ats_buffer_law.proofs.Crossed.{IsCrossedOn, later_crossed-le, none_here, run_crossings-le}
 use Rattle.ats_buffer_law.proofs.OnRoutes.{weighs_on_route}
@@ -76,25 +74,23 @@ counted_none false n h = omega arith
 abbrev pub group_port : DeclaredNetwork → ℕ → ℕ → ℕ → ℕ
 group_port network port leg i = port_before port (route_to (sender_at network i) leg)
 
--- a frame's crossings of a port that leaves a bridge weigh no more than what the port before handed on
-soon_behind : (network : DeclaredNetwork) (i port leg time stay : ℕ)
-    → IsBridgeAt network.topology (port_at network.topology.ports port).from → (n : ℕ) (r : Release) (s : Sender)
-    → (path : List ℕ) (hops : List HopRecord) (ending : Ending) → IsValidPath network.topology path
-    → IsWay path hops ending
+-- a frame's crossings of a port that leaves another node than the first one of a route weigh no more than what the port
+-- before handed on
+soon_behind : (network : DeclaredNetwork) (i port leg time stay n : ℕ) (r : Release) (s : Sender)
+    (path : List ℕ) (hops : List HopRecord) (ending : Ending) → IsWay path hops ending
+    → (start_of network.topology.ports path ≡ (port_at network.topology.ports port).from → ⊥)
     → AllNeighbours (IsCrossedOn (soon_weight i port time stay)
     (passed_weight i (group_port network port leg i) time stay) n r s) path
     → sum_by (soon_weight i port time stay) (crossings_along n r s path hops ending)
     ≤ sum_by (passed_weight i (group_port network port leg i) time stay) (handed_along n r s path hops)
-soon_behind network i port leg time stay bridge n r s [] hops ending valid way on = omega arith
-soon_behind network i port leg time stay bridge n r s (p ∷ path) [] ending valid way on = omega arith
-soon_behind network i port leg time stay bridge n r s (p ∷ path) (hop ∷ hops) ending valid way on =
+soon_behind network i port leg time stay n r s [] hops ending way elsewhere on = omega arith
+soon_behind network i port leg time stay n r s (p ∷ path) [] ending way elsewhere on = omega arith
+soon_behind network i port leg time stay n r s (p ∷ path) (hop ∷ hops) ending way elsewhere on =
     let f : Crossing → ℕ = soon_weight i port time stay in
     let g : Handed → ℕ = passed_weight i (group_port network port leg i) time stay in
     let here = none_here f r.octets hop.arrival.0 p (transmission_of n r (class_at s p) hop) hops ending
-    (λ x next. counted_none (p == port) _ (λ same. not_both network.topology
-    (port_at network.topology.ports port).from
-    (subst (λ (q : ℕ). IsStationAt network.topology (port_at network.topology.ports q).from) (eqb-true p port same)
-    (first_station network.topology p path valid)) bridge ⊥)) in
+    (λ x next. counted_none (p == port) _ (λ same.
+    elsewhere (ap (λ (q : ℕ). (port_at network.topology.ports q).from) (eqb-true p port same)))) in
     let later = later_crossed-le f g n r s p path hop hops ending on way in
     let all = sum_by-append f
     (crossing_at r.octets hop.arrival.0 p (transmission_of n r (class_at s p) hop) hops ending)
@@ -102,12 +98,13 @@ soon_behind network i port leg time stay bridge n r s (p ∷ path) (hop ∷ hops
     omega (arith, here, later, all)
 
 -- of the frames of the sender whose leg has the port
-own_soon : (network : DeclaredNetwork) (i port leg hop time stay : ℕ) → IsNetwork network
-    → IsBridgeAt network.topology (port_at network.topology.ports port).from → (n : ℕ) (j : Travel)
-    → IsJourney network j → IsAt (sender_at network j.release.sender) port leg hop
+own_soon : (network : DeclaredNetwork) (i port leg hop time stay : ℕ) → IsNetwork network → (n : ℕ) (j : Travel)
+    → IsJourney network j
+    → (talker_of network j.release.sender ≡ (port_at network.topology.ports port).from → ⊥)
+    → IsAt (sender_at network j.release.sender) port leg hop
     → sum_by (soon_weight i port time stay) (journey_crossings network n j)
     ≤ sum_by (passed_weight i (group_port network port leg i) time stay) (journey_handed network n j)
-own_soon network i port leg hop time stay net bridge n j is at =
+own_soon network i port leg hop time stay net n j is elsewhere at =
     let r : Release = j.release in
     let s : Sender = sender_at network r.sender in
     let keeps : IsSender network.topology s = journey_sender network j net is in
@@ -119,7 +116,8 @@ own_soon network i port leg hop time stay net bridge n j is at =
     let on : OnRoute s j leg = journey_route network j leg net is within in
     let along : sum_by f (crossings_along n r s route way.hops way.ending)
     ≤ sum_by g (handed_along n r s route way.hops) =
-    soon_behind network i port leg time stay bridge n r s route way.hops way.ending (keeps.valid leg [] within) on.way
+    soon_behind network i port leg time stay n r s route way.hops way.ending on.way
+    (λ starts. elsewhere (sym (route_starts network.topology s leg keeps within) ∙ starts))
     (neighbours_with (λ p. p < length network.topology.ports) (λ p q. q ≡ port → p ≡ port_before port route)
     (IsCrossedOn f g n r s)
     (λ p q within only e since times earlier came arrival next.
@@ -144,17 +142,18 @@ others_none i port time stay c other =
     counted_neither (c.port == port) (c.sent.sender == i) _ (λ same. other (eqb-true c.sent.sender i same))
 
 journey_soon : (network : DeclaredNetwork) (i port leg hop time stay : ℕ) → IsNetwork network
-    → IsBridgeAt network.topology (port_at network.topology.ports port).from
+    → (talker_of network i ≡ (port_at network.topology.ports port).from → ⊥)
     → IsAt (sender_at network i) port leg hop → (n : ℕ) (j : Travel) → IsJourney network j
     → sum_by (soon_weight i port time stay) (journey_crossings network n j)
     ≤ sum_by (passed_weight i (group_port network port leg i) time stay) (journey_handed network n j)
-journey_soon network i port leg hop time stay net bridge at n j is =
+journey_soon network i port leg hop time stay net elsewhere at n j is =
     let r : Release = j.release in
     let s : Sender = sender_at network r.sender in
     let f : Crossing → ℕ = soon_weight i port time stay in
     elim (cases_eq r.sender i) as (λ _. sum_by f (journey_crossings network n j)
     ≤ sum_by (passed_weight i (group_port network port leg i) time stay) (journey_handed network n j)) [
-      | inl same ↦ own_soon network i port leg hop time stay net bridge n j is
+      | inl same ↦ own_soon network i port leg hop time stay net n j is
+          (λ begins. elsewhere (ap (talker_of network) (sym same) ∙ begins))
           (subst (λ (k : ℕ). IsAt (sender_at network k) port leg hop) (sym same) at)
       | inr other ↦ (
           let its = each_was_sent (λ (g : Hop). g.sent.sender ≡ r.sender) n r s (legs_of s.ports s.branches) (legs_in j)
@@ -167,14 +166,14 @@ journey_soon network i port leg hop time stay net bridge at n j is =
 
 pub run_soon : (network : DeclaredNetwork) (run : List Travel) (i port leg hop time stay : ℕ)
     → Case ats_judge bucket_rule network run
-    → IsBridgeAt network.topology (port_at network.topology.ports port).from
+    → (talker_of network i ≡ (port_at network.topology.ports port).from → ⊥)
     → IsAt (sender_at network i) port leg hop
     → sum_by (soon_weight i port time stay) (crossings_from network 0 run)
     ≤ sum_by (passed_weight i (group_port network port leg i) time stay) (handed_from network 0 run)
-run_soon network run i port leg hop time stay c bridge at =
+run_soon network run i port leg hop time stay c elsewhere at =
     run_crossings-le (IsJourney network) (soon_weight i port time stay)
     (passed_weight i (group_port network port leg i) time stay) network 0 run
-    (journey_soon network i port leg hop time stay c.net bridge at) c.legal.journeys
+    (journey_soon network i port leg hop time stay c.net elsewhere at) c.legal.journeys
 
 -- what is counted of a frame that was handed on, with what is known of it, is counted in the window
 pub passed-le : (time stay bound soonest octets arrival bits since : ℕ) (verdict : Verdict) → bits ≡ bits_of octets

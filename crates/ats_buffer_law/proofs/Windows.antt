@@ -1,6 +1,6 @@
 use Rattle.std.proofs.Common.{◌≡◌, ℕ, ◌+◌, ◌-◌, ◌*◌, ◌<◌, ◌≤◌, Bool, true, false, cond, List, length, get_or}
 use Rattle.std.proofs.Common.{sum_by, [], ◌++◌, length-append}
-use Rattle.std.proofs.Common.{Option, refl, sym, ap, ◌∙◌, subst, arith}
+use Rattle.std.proofs.Common.{Option, Some, refl, sym, ap, ◌∙◌, subst, arith}
 use Rattle.std.specs.Prelude.{◌==◌, ◌&&◌, nat_le, nat_lt, unwrap_or, Contains}
 use Rattle.std.specs.Option.{option_map}
 use Rattle.std.proofs.Math.Nat.{mul-le-mul_left}
@@ -10,7 +10,6 @@ use Rattle.std.proofs.lemmas.List.{get_or-append-add}
 use Rattle.ats_facts.proofs.Lists.{All-from_filter}
 use Rattle.ats_num.specs.declared.time.TheConstants.{PS_PER_SECOND}
 use Rattle.ats_topology.specs.Port.{port_at}
-use Rattle.ats_topology.specs.Topology.{IsStationAt}
 use Rattle.ats_network.specs.Sender.{Sender}
 use Rattle.ats_streams.specs.Branches.{leads_of, leg_at, legs_of}
 use Rattle.ats_streams.proofs.BranchLemmas.{route-at}
@@ -31,10 +30,11 @@ use Rattle.ats_trace.specs.Projections.{Crossing, Handed, hops_from, crossings_f
 use Rattle.ats_soundness_law.proofs.Along.{hop_of}
 use Rattle.ats_soundness_law.proofs.Arrivals.{crossed_there}
 use Rattle.ats_soundness_law.proofs.Bits.{hop_weight}
+use Rattle.ats_trace.specs.Talker.{talker_of}
 use Rattle.ats_trace.specs.Ways.{listener_count, route_to}
 use Rattle.ats_route_law.proofs.Before.{before_on_route}
 use Rattle.ats_soundness_law.proofs.Journeys.{StandsAt, each_handed-le, each_on_route, leg_listener, listeners_many}
-use Rattle.ats_soundness_law.proofs.Journeys.{route_apart, stands_at}
+use Rattle.ats_soundness_law.proofs.Journeys.{route_apart, route_starts, stands_at}
 use Rattle.ats_soundness_law.proofs.Known.{Case, told}
 use Rattle.ats_soundness_law.proofs.Lifts.{run_handed-le}
 use Rattle.ats_soundness_law.proofs.Offered.{IsFed}
@@ -42,6 +42,7 @@ use Rattle.ats_soundness_law.proofs.Paths.{sender_is, uses_own}
 use Rattle.ats_soundness_law.proofs.Streams.{stream_exists, stream_used}
 use Rattle.ats_buffer.specs.Occupancy.{is_there}
 use Rattle.ats_buffer.specs.Buffer.{stay_at, way_by, way_over, way_to, window_at}
+use Rattle.ats_buffer_law.specs.Laws.{BridgeKeeps}
 use Rattle.ats_buffer_law.proofs.Came.{all_own, all_known}
 use Rattle.ats_buffer_law.proofs.Crossed.{run_crossed-le}
 use Rattle.ats_buffer_law.proofs.Fed.{fed_window}
@@ -49,14 +50,17 @@ use Rattle.ats_buffer_law.proofs.Passed.{soon_weight, passed_weight, passed_bits
 use Rattle.ats_buffer_law.proofs.Places.{IsPlaced, first, behind, placed}
 use Rattle.ats_buffer_law.proofs.Stays.{IsBrief, all_brief, IsTimely, all_timely}
 
--- a stream with its class at a port, in a legal run by a certificate that holds, each port of which is fed
+-- a stream with its class at a port, in a legal run by a certificate that holds, each port of which is fed where the
+-- bridge that it leaves keeps its buckets; and that of this port does, and that of the port before
 pub record OfStream (network : DeclaredNetwork) (rows : List Row) (run : List Travel) (i port class : ℕ) : Type 0 where
   pub case : Case ats_judge bucket_rule network run
   pub holds : Holds network rows
   pub exists : i < length network.streams
   pub some : 1 ≤ class
   pub ranked : class_at (sender_at network i) port ≡ class
-  pub fed : (q : ℕ) → uses q (sender_at network i) ≡ true → IsFed bucket_rule network run q
+  pub fed : (q : ℕ) → uses q (sender_at network i) ≡ true → BridgeKeeps network run q → IsFed bucket_rule network run q
+  pub here : BridgeKeeps network run port
+  pub before : (q : ℕ) → port_before (sender_at network i) port ≡ Some q → BridgeKeeps network run q
 
 -- the bits of a stream's crossing of the port that is there at a time
 abbrev pub held_weight : ℕ → ℕ → ℕ → Crossing → ℕ
@@ -109,7 +113,8 @@ module _ (network : DeclaredNetwork) (rows : List Row) (run : List Travel) (i po
       ≤ sum_by (soon_weight i port time (stay_at network rows port class)) (crossings_from network 0 run)
   held_soon time =
       let stay : ℕ = stay_at network rows port class in
-      let brief = all_brief network rows run port class o.case o.holds used_here (o.fed port uses_port) in
+      let brief = all_brief network rows run port class o.case o.holds used_here
+      (o.fed port uses_port o.here) in
       let sent = All-from_filter (λ (c : Crossing). c.port == port)
       (λ (c : Crossing). Contains (sent_by network run port) c.sent) (crossings_from network 0 run)
       (crossed_there network run port) in
@@ -131,11 +136,11 @@ module _ (network : DeclaredNetwork) (rows : List Row) (run : List Travel) (i po
       (lt-ltb time (c.sent.eligible + stay)
       (omega (arith, ltb-true time c.sent.end parts.1, ends)))))))
 
-  -- at the first port it came when it became eligible
-  soon_first : IsStationAt network.topology (port_at network.topology.ports port).from → (time stay : ℕ)
+  -- at a port of its talker it came when it became eligible
+  soon_first : talker_of network i ≡ (port_at network.topology.ports port).from → (time stay : ℕ)
       → sum_by (soon_weight i port time stay) (crossings_from network 0 run)
       ≤ sum_by (hop_weight i port (bits_in (time - stay) time)) (hops_from network 0 run)
-  soon_first station time stay =
+  soon_first begins time stay =
       let own_frames = all_own network run o.case in
       let each = sum_by-le-all (soon_weight i port time stay)
       (λ (c : Crossing). hop_weight i port (bits_in (time - stay) time) (hop_of c)) (crossings_from network 0 run)
@@ -148,25 +153,25 @@ module _ (network : DeclaredNetwork) (rows : List Row) (run : List Travel) (i po
       let came = leb-true c.came time parts.0 in
       let late = ltb-true time (c.sent.eligible + stay) parts.1 in
       let same : c.sent.eligible ≡ c.came = own_frames k d h
-      (subst (λ (p : ℕ). IsStationAt network.topology (port_at network.topology.ports p).from)
-      (sym (eqb-true c.port port here)) station) in
+      (ap (talker_of network) (eqb-true c.sent.sender i own) ∙ begins
+      ∙ ap (λ (p : ℕ). (port_at network.topology.ports p).from) (sym (eqb-true c.port port here))) in
       within-is (time - stay) time (frame_of c.sent) (omega (arith, late)) (omega (arith, came, same)))))) in
       omega (arith, each, run_crossed-le (hop_weight i port (bits_in (time - stay) time)) network 0 run)
 
   -- behind a port it was eligible there in the window
-  passed_window : (q : ℕ) → uses q (sender_at network i) ≡ true → (time stay : ℕ)
+  passed_window : (q : ℕ) → uses q (sender_at network i) ≡ true → BridgeKeeps network run q → (time stay : ℕ)
       → sum_by (passed_weight i q time stay) (handed_from network 0 run)
       ≤ sum_by (hop_weight i q (bits_in (time - (stay + bound_at rows q (class_at (sender_at network i) q)))
       (time - (bound_at rows q (class_at (sender_at network i) q)
       - way_by network rows q (class_at (sender_at network i) q))))) (hops_from network 0 run)
-  passed_window q on time stay =
+  passed_window q on kept time stay =
       let c : ℕ = class_at (sender_at network i) q in
       let bound : ℕ = bound_at rows q c in
       let soonest : ℕ = bound - way_by network rows q c in
       let weight = hop_weight i q (bits_in (time - (stay + bound)) (time - soonest)) in
       let timely = All-from_filter (λ (h : Handed). h.crossing.port == q && h.crossing.sent.class == c)
       (IsTimely network rows q c) (handed_from network 0 run)
-      (all_timely network rows run q c o.case o.holds (stream_used network q i o.exists on) (o.fed q on)) in
+      (all_timely network rows run q c o.case o.holds (stream_used network q i o.exists on) (o.fed q on kept)) in
       let is_told = told network run o.case in
       let each = sum_by-le-all (passed_weight i q time stay) (λ (h : Handed). weight (hop_of h.crossing))
       (handed_from network 0 run)
@@ -194,15 +199,18 @@ module _ (network : DeclaredNetwork) (rows : List Row) (run : List Travel) (i po
       → PS_PER_SECOND * sum_by (held_weight i port time) (crossings_from network 0 run)
       ≤ (sender_at network i).rate * window_at network rows port class (sender_at network i)
       + PS_PER_SECOND * (sender_at network i).burst_bits
-  by_window (first station) time =
+  by_window (first starts) time =
       let stay : ℕ = stay_at network rows port class in
       let soon = held_soon time in
-      let sent = soon_first station time stay in
-      let window = fed_window network run port i (time - stay) time (o.fed port uses_port) o.exists (omega arith) in
+      let begins : talker_of network i ≡ (port_at network.topology.ports port).from =
+      sym (route_starts network.topology (sender_at network i) stands.leg keeps listener) ∙ starts in
+      let sent = soon_first begins time stay in
+      let window = fed_window network run port i (time - stay) time (o.fed port uses_port o.here) o.exists
+      (omega arith) in
       in_window (sum_by (held_weight i port time) (crossings_from network 0 run)) _ (sender_at network i).rate
       (time - (time - stay)) (window_at network rows port class (sender_at network i)) (sender_at network i).burst_bits
       (omega (arith, soon, sent)) window (omega arith)
-  by_window (behind k within is group bridge) time =
+  by_window (behind k within is group elsewhere bridge) time =
       let s : Sender = sender_at network i in
       let route : List ℕ = route_to s stands.leg in
       let q : ℕ = get_or route k 0 in
@@ -216,14 +224,17 @@ module _ (network : DeclaredNetwork) (rows : List Row) (run : List Travel) (i po
       ≤ sum_by (passed_weight i q time stay) (handed_from network 0 run) =
       subst (λ (p : ℕ). sum_by (soon_weight i port time stay) (crossings_from network 0 run)
       ≤ sum_by (passed_weight i p time stay) (handed_from network 0 run)) group
-      (run_soon network run i port stands.leg stands.hop time stay o.case bridge stands.at) in
-      let sent = passed_window q on time stay in
-      let window = fed_window network run q i (time - (stay + bound)) (time - (bound - way)) (o.fed q on) o.exists
+      (run_soon network run i port stands.leg stands.hop time stay o.case
+      (λ begins. elsewhere (route_starts network.topology s stands.leg keeps listener ∙ begins)) stands.at) in
+      let before : port_before s port ≡ Some q =
+      ap (port_before s) (sym is) ∙ before_on_route network.topology s stands.leg k keeps
+      (listeners_many s stands.leg listener) within in
+      let kept : BridgeKeeps network run q = o.before q before in
+      let sent = passed_window q on kept time stay in
+      let window = fed_window network run q i (time - (stay + bound)) (time - (bound - way)) (o.fed q on kept) o.exists
       (omega arith) in
       let way_is : way_to network rows s port ≡ way =
-      ap (λ (b : Option ℕ). unwrap_or (option_map (way_over network rows s) b) 0)
-      (ap (port_before s) (sym is) ∙ before_on_route network.topology s stands.leg k keeps
-      (listeners_many s stands.leg listener) within) in
+      ap (λ (b : Option ℕ). unwrap_or (option_map (way_over network rows s) b) 0) before in
       in_window (sum_by (held_weight i port time) (crossings_from network 0 run)) _ s.rate
       (time - (bound - way) - (time - (stay + bound))) (window_at network rows port class s) s.burst_bits
       (omega (arith, soon, passed, sent)) window (omega (arith, way_is))

@@ -16,14 +16,14 @@ use Rattle.ats_tree_examples.specs.Networks.{split, split_and_flow, split_and_st
 use Rattle.ats_tree_examples.specs.Runs.{behind_flow, one_split, over_tree, tied_first}
 use Rattle.ats_tree_examples.specs.Bounds.{rows_beside_flow, split_rows, tree_rows}
 use Rattle.ats_tree_examples.specs.Served.{rows_with_bursts}
-use Rattle.ats_buffer_law.specs.Laws.{TalkersKeepBuckets}
+use Rattle.ats_buffer_law.specs.Laws.{NodesKeepBuckets}
 
 -- at a port of a legal run so many bits of a class are there at a time, whose talkers keep their buckets, and the
 -- buffer has room for them
 pub record IsHeld (network : DeclaredNetwork) (rows : List Row) (run : List Travel) (port class time bits : ℕ)
     : Type 0 where
   pub legal : IsLegal network run
-  pub keep : TalkersKeepBuckets network run port class
+  pub keep : NodesKeepBuckets network run port class
   pub there : occupancy network run port class time ≡ bits
   pub fits : bits ≤ buffer_at network rows port class
 
@@ -77,7 +77,7 @@ pub record CopiesAreHeld : Type 0 where
 pub record BabblerCounts : Type 0 where
   pub certified : IsCertified fork fork_rows
   pub beside : IsHeld fork fork_rows babbler 0 6 0 12336
-  pub not_kept : ¬ TalkersKeepBuckets fork babbler 4 6
+  pub not_kept : ¬ NodesKeepBuckets fork babbler 4 6
   pub over : buffer_at fork fork_rows 4 6 < occupancy fork babbler 4 6 0
   pub held : occupancy fork babbler 4 6 0 ≡ 15456
 
@@ -87,4 +87,4 @@ pub record OtherClassesMayBabble : Type 0 where
   pub certified : IsCertified fork_of_classes hop_rows
   pub held : IsHeld fork_of_classes hop_rows (behind_two 6719999) 2 5 13836000 12336
   pub babbles : ¬ KeepsBuckets fork_of_classes (releases_of (behind_two 6719999)) (talker_of fork_of_classes 1)
-  pub not_kept : ¬ TalkersKeepBuckets fork_of_classes (behind_two 6719999) 2 6
+  pub not_kept : ¬ NodesKeepBuckets fork_of_classes (behind_two 6719999) 2 6

@@ -1,5 +1,6 @@
 //! What the law on buffers says of worked runs.
 
+ghost use Rattle.ats_buffer_law.specs.OwnFrames.{BridgeBackMayBabble};
 ghost use Rattle.ats_buffer_law.specs.Worked.{BabblerCounts, BuffersAreMet, CopiesAreHeld, OtherClassesMayBabble};
 
 /// What the law asks can be met: by one frame over one bridge, and by two that meet at a port of the
@@ -26,4 +27,10 @@ pub fn babbler_counts()
 /// that has class 6 there does not keep its buckets.
 pub fn other_classes_may_babble()
     ensures { OtherClassesMayBabble }
+{}
+
+/// Bridges count where the port, or the port before it, leaves them: two ports behind a bridge that babbles a port
+/// holds no more than its buffer, and of the next port nothing is promised.
+pub fn bridge_back_may_babble()
+    ensures { BridgeBackMayBabble }
 {}

@@ -1,4 +1,4 @@
-use Rattle.std.specs.Prelude.{◌≡◌, ℕ, ◌+◌, ◌*◌, ◌<◌, List, All, Some, slice_get, Contains}
+use Rattle.std.specs.Prelude.{◌≡◌, ◌↔◌, ℕ, ◌+◌, ◌*◌, ◌<◌, List, All, Some, slice_get, Contains}
 use Rattle.ats_num.specs.declared.time.TheConstants.{PS_PER_NS}
 use Rattle.ats_streams.specs.Stream.{DeclaredStream}
 use Rattle.ats_network.specs.Sender.{stream_sender}
@@ -14,7 +14,7 @@ use Rattle.ats_trace.specs.Run.{IsLegalBy, releases_of}
 use Rattle.ats_trace.specs.Talker.{talker_of, KeepsBucketsBy}
 use Rattle.ats_trace.specs.declared.journey.Release.{Release}
 use Rattle.ats_trace.specs.declared.journey.Ending.{Ending}
-use Rattle.ats_soundness_law.specs.Sound.{ArrivesBy, IsSoundBy}
+use Rattle.ats_soundness_law.specs.Sound.{ArrivesBy, BeginAtStations, BridgesKeep, IsSoundBy}
 
 -- a frame of a stream, at the end of a route, arrives within the sum of the bounds along the route since its release,
 -- and within the deadline
@@ -29,17 +29,34 @@ ArrivesInTime rows stream journey = (listener : ℕ) → listener < listener_cou
     → ArrivesInTimeOn rows stream journey.release (route_to (stream_sender stream) listener)
     (way_to (stream_sender stream) journey listener).ending
 
--- in each legal run, where groups judge so, each frame of a stream whose talker keeps this rule arrives so
+-- in each legal run, where groups judge so, each frame of a stream whose talker keeps this rule arrives so at each
+-- listener such that the bridges on the way there keep it too
 abbrev pub FramesAreInTimeBy : Judge → (Declared → List Frame → Type 0) → DeclaredNetwork → List Row → Type 0
 FramesAreInTimeBy judge rule network rows = (run : List Travel) → IsLegalBy judge network run → (journey : Travel)
     → Contains run journey → (stream : DeclaredStream)
     → slice_get network.streams journey.release.sender ≡ Some stream
     → KeepsBucketsBy rule network (releases_of run) (talker_of network journey.release.sender)
-    → ArrivesInTime rows stream journey
+    → (listener : ℕ) → listener < listener_count (stream_sender stream)
+    → BridgesKeep rule network (releases_of run) (route_to (stream_sender stream) listener)
+    → ArrivesInTimeOn rows stream journey.release (route_to (stream_sender stream) listener)
+    (way_to (stream_sender stream) journey listener).ending
 
 -- and the groups are those of Asynchronous Traffic Shaping, and talkers keep their buckets
 abbrev pub FramesAreInTime : DeclaredNetwork → List Row → Type 0
 FramesAreInTime network rows = FramesAreInTimeBy ats_judge bucket_rule network rows
+
+-- the same, where nothing is asked of bridges: each frame of a stream whose talker keeps this rule arrives so
+abbrev pub FramesAreInTimeFromStations : Judge → (Declared → List Frame → Type 0) → DeclaredNetwork → List Row → Type 0
+FramesAreInTimeFromStations judge rule network rows = (run : List Travel) → IsLegalBy judge network run
+    → (journey : Travel) → Contains run journey → (stream : DeclaredStream)
+    → slice_get network.streams journey.release.sender ≡ Some stream
+    → KeepsBucketsBy rule network (releases_of run) (talker_of network journey.release.sender)
+    → ArrivesInTime rows stream journey
+
+-- where no bridge has frames of its own, that is as much
+abbrev pub StationsAreInTime : (Declared → List Frame → Type 0) → Type 0
+StationsAreInTime rule = (judge : Judge) (network : DeclaredNetwork) (rows : List Row) → BeginAtStations network
+    → FramesAreInTimeBy judge rule network rows ↔ FramesAreInTimeFromStations judge rule network rows
 
 -- by sound bounds by which each stream is in time they do, whichever the judge and the rule
 abbrev pub SoundIsInTime : (Declared → List Frame → Type 0) → Type 0

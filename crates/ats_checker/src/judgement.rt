@@ -22,7 +22,7 @@ use std::alloc::Global;
 
 /// The delays that a certificate gives the streams of a network for which it holds, and only such a
 /// one: for each hop the bound, and for each stream their sum. The bounds are then sound: in each
-/// legal run of the network, each frame of a stream whose talker keeps its buckets is never
+/// legal run of the network, each frame of a stream whose talker and bridges keep their buckets is never
 /// discarded, is eligible at each next hop within the bound of the hop before, and arrives within
 /// its stream's sum. It takes time and memory linear in the numbers of ports and of rows and the
 /// sum of the paths' lengths.

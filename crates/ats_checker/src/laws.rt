@@ -1,6 +1,6 @@
 //! Laws of the judgement, and what an accepted certificate promises of each legal run.
 
-ghost use Rattle.ats_checker.specs.InTime.{HoldingIsInTime, SoundIsInTime};
+ghost use Rattle.ats_checker.specs.InTime.{HoldingIsInTime, SoundIsInTime, StationsAreInTime};
 ghost use Rattle.ats_checker.specs.Laws.{EachRefusalIsTheFirst, LeastIsAccepted, RefusedUnlessHolding};
 ghost use Rattle.ats_port_law.specs.PortLaw.{PortLaw};
 ghost use Rattle.ats_soundness_law.specs.Laws.{ShapingForFree, PathLaw, Containment, CertificateIsSound};
@@ -39,8 +39,9 @@ pub fn shaping_for_free()
     ats_soundness_law::laws::shaping_for_free()
 }
 
-/// The path law: where a certificate holds, each frame of a stream whose talker keeps its buckets is never discarded,
-/// is eligible at each next hop within the bound of the hop before, and arrives within the sum of the bounds.
+/// The path law: where a certificate holds, each frame of a stream whose talker keeps its buckets, as the bridges on
+/// its way do, is never discarded, is eligible at each next hop within the bound of the hop before, and arrives within
+/// the sum of the bounds.
 pub fn path_law()
     ensures { PathLaw }
 {
@@ -48,7 +49,8 @@ pub fn path_law()
 }
 
 /// Containment: where a certificate holds, each frame of any stream that the first bridge lets through is never
-/// discarded from there on, and is eligible at each next hop within the bound of the hop before.
+/// discarded from there on, and is eligible at each next hop within the bound of the hop before, where the bridges from
+/// there on keep their buckets.
 pub fn containment()
     ensures { Containment }
 {
@@ -68,8 +70,15 @@ pub fn sound_is_in_time<R: TalkerRule>()
     ensures { SoundIsInTime R.kept }
 {}
 
+/// Where all routes begin at stations, frames are in time so, the bridges on their ways being asked, exactly where they
+/// are with their talkers asked alone.
+pub fn stations_are_in_time<R: TalkerRule>()
+    ensures { StationsAreInTime R.kept }
+{}
+
 /// Deadlines are kept: where a certificate holds, in each legal run each frame of a stream whose talker keeps its
-/// buckets arrives within the sum of the bounds along its path, and within its stream's deadline.
+/// buckets, as the bridges on its way do, arrives within the sum of the bounds along its path, and within its stream's
+/// deadline.
 pub fn holding_is_in_time()
     ensures { HoldingIsInTime }
 {}

@@ -63,9 +63,9 @@ fits_used network port class is carries used =
     rw (eqb-true at.0 port parts.0, eqb-true at.1 class parts.1) at fits))
     (places_have network port class is used)
 
--- the bursts of a row are those of 5120 senders at most
+-- the bursts of a row are those of 8192 senders at most
 pub bursts_most : (network : DeclaredNetwork) (port class : ℕ) → IsNetwork network
-    → is_used network port class ≡ true → (least_row network (port, class)).bursts ≤ 5120000000000
+    → is_used network port class ≡ true → (least_row network (port, class)).bursts ≤ 8192000000000
 bursts_most network port class is used =
     let within = all_within network port class tally is (used_class network port class is used) counted in
     omega (arith, within.bursts)

@@ -131,7 +131,7 @@ impl<'a> Explanation<'a> {
         requires { IsTrue (is_used self.now port class) }
         ensures row { result.now ≡ least_row self.now (port, class) }
         ensures form { IsRow result.now }
-        ensures bursts { result.now.bursts ≤ 5120000000000 }
+        ensures bursts { result.now.bursts ≤ 8192000000000 }
     {
         &self.certificate.rows()[self.places.get(port, class)]
     }

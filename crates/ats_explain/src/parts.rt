@@ -45,7 +45,7 @@ impl Parts {
     pub fn of(port: &Port, row: &Row, sender: Option<Name>, residence_ns: Option<u32>) -> Self
         requires ps { port.now.ps_per_bit ≤ 100000 }
         requires form { IsRow row.now }
-        requires bursts { row.now.bursts ≤ 5120000000000 }
+        requires bursts { row.now.bursts ≤ 8192000000000 }
         ensures { result ≡ parts_by port.now row.now sender residence_ns }
     {
         let ps = u128::from(port.ps_per_bit);

@@ -21,7 +21,7 @@ pub struct Totals {
 pub struct Tightest {
     /// The stream's name.
     pub name: Name,
-    /// The name of the listener's station; `None` for the stream's first listener.
+    /// The name of the listener's node; `None` for the stream's first listener.
     pub listener: Option<Name>,
     /// Its sum and its deadline.
     pub margin: Margin,

@@ -14,7 +14,7 @@ LegalInTurn = (network : DeclaredNetwork) (first second : List Travel) (over by 
     → IsLegal network first → IsLegal network second → All (IsOverBy over) first → RestsUntil network over by
     → IsLegal network (first ++ later_run by second)
 
--- and a station that keeps its buckets in both keeps them in the whole
+-- and a node that keeps its buckets in both keeps them in the whole
 abbrev pub KeptInTurn : Type 0
 KeptInTurn = (network : DeclaredNetwork) (first second : List Travel) (over by station : ℕ)
     → KeepsBuckets network (releases_of first) station → KeepsBuckets network (releases_of second) station

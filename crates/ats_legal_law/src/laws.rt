@@ -7,7 +7,7 @@ ghost use Rattle.ats_legal_law.specs.Line.{RunsAreOfAnyLength};
 ghost use Rattle.ats_legal_law.specs.Once.{FramesAreToldOnce};
 
 /// A law: where a legal run is over, and the network has rested until each bucket is full again, another legal run may
-/// begin, and the two are one legal run; a station that keeps its buckets in both keeps them in the whole. Each run is
+/// begin, and the two are one legal run; a node that keeps its buckets in both keeps them in the whole. Each run is
 /// over at some time.
 pub fn runs_go_in_turn()
     ensures legal { LegalInTurn }
@@ -15,7 +15,7 @@ pub fn runs_go_in_turn()
     ensures once_over { IsOnceOver }
 {}
 
-/// A law: so a legal run may happen any number of times, and a station that keeps its buckets in it keeps them.
+/// A law: so a legal run may happen any number of times, and a node that keeps its buckets in it keeps them.
 pub fn runs_repeat()
     ensures legal { LegalWhenRepeated }
     ensures kept { KeptWhenRepeated }

@@ -12,7 +12,7 @@ use Rattle.ats_streams.specs.declared.traffic.Declared.{Declared}
 use Rattle.ats_topology.specs.Port.{port_at}
 use Rattle.ats_topology.specs.Topology.{DeclaredTopology}
 use Rattle.ats_network.specs.Sender.{Sender, stream_sender, flow_sender, declared_of}
-use Rattle.ats_network.specs.Network.{DeclaredNetwork, declared_network, senders_of}
+use Rattle.ats_network.specs.Network.{DeclaredNetwork, network_within, senders_of}
 use Rattle.ats_network.specs.Senders.{no_sender, sender_at}
 use Rattle.ats_port_rule.specs.Transmission.{Transmission}
 use Rattle.ats_port_rule.specs.PortRule.{KeepsPortRule}
@@ -61,10 +61,10 @@ bare_streams : (streams : List DeclaredStream)
 bare_streams [] = refl
 bare_streams (s ∷ ss) = ap (λ (xs : List Sender). stream_sender (bare_stream s) ∷ xs) (bare_streams ss)
 
-bare_senders : (topology : DeclaredTopology) (flows : List DeclaredFlow) (streams : List DeclaredStream)
-    → map bare (senders_of (declared_network topology streams flows))
+bare_senders : (topology : DeclaredTopology) (most : ℕ) (flows : List DeclaredFlow) (streams : List DeclaredStream)
+    → map bare (senders_of (network_within topology most streams flows))
     ≡ map stream_sender (map bare_stream streams) ++ map bare (map flow_sender flows)
-bare_senders topology flows streams =
+bare_senders topology most flows streams =
     map-append bare (map stream_sender streams) (map flow_sender flows)
     ∙ ap (λ (xs : List Sender). xs ++ map bare (map flow_sender flows)) (bare_streams streams)
 
@@ -138,19 +138,19 @@ verdicts_alike d e same residence_ns state (offer ∷ offers) =
     (verdicts_alike d e same residence_ns (next e residence_ns state offer) offers)
 
 -- two networks whose streams differ in their bursts alone
-module _ (topology : DeclaredTopology) (flows : List DeclaredFlow) (streams others : List DeclaredStream)
+module _ (topology : DeclaredTopology) (most : ℕ) (flows : List DeclaredFlow) (streams others : List DeclaredStream)
     (alike : map bare_stream streams ≡ map bare_stream others) where
   abbrev network : DeclaredNetwork
-  network = declared_network topology streams flows
+  network = network_within topology most streams flows
 
   abbrev other : DeclaredNetwork
-  other = declared_network topology others flows
+  other = network_within topology most others flows
 
   all_alike : map bare (senders_of network) ≡ map bare (senders_of other)
   all_alike =
-      bare_senders topology flows streams
+      bare_senders topology most flows streams
       ∙ ap (λ (xs : List DeclaredStream). map stream_sender xs ++ map bare (map flow_sender flows)) alike
-      ∙ sym (bare_senders topology flows others)
+      ∙ sym (bare_senders topology most flows others)
 
   -- what does not read the bursts is the same of their senders
   pub same_map : {X : Type 0} (f : Sender → X) → ((s : Sender) → f (bare s) ≡ f s)

@@ -9,11 +9,14 @@ use Rattle.ats_topology.specs.Node.{AreApart}
 use Rattle.ats_topology.specs.Topology.{DeclaredTopology}
 use Rattle.ats_network.specs.Sender.{Sender}
 use Rattle.ats_network.specs.Path.{IsTree}
-use Rattle.ats_network.specs.Network.{AreIdentified, ports_together, senders_of}
+use Rattle.ats_network.specs.Network.{AreIdentified, HasShortRoutes, ports_together, senders_of}
 use Rattle.ats_network.specs.Senders.{sender_at}
 use Rattle.ats_certificate.specs.declared.row.Row.{Row}
 use Rattle.ats_trace.specs.Journey.{Travel}
-use Rattle.ats_soundness_law.specs.Sound.{IsServed, IsContained}
+use Rattle.ats_trace.specs.Run.{releases_of}
+use Rattle.ats_trace.specs.Ways.{listener_count, route_to, way_to}
+use Rattle.ats_trace.specs.declared.journey.Release.{Release}
+use Rattle.ats_soundness_law.specs.Sound.{BridgesKeep, IsContainedOn, IsServedOn, all_but_first}
 use Rattle.ats_soundness_law.proofs.EachRule.{rule_of_holding}
 use Rattle.ats_soundness_law.proofs.Soundness.{sound_by_rule}
 use Rattle.ats_lrq.specs.Judge.{lrq_judge, spacing_rule}
@@ -90,30 +93,33 @@ narrowed_is_network network n =
           (λ i d h. narrowed_is_stream (get_or network.streams i d) (n.streams i d h));
       flows = n.flows;
       trees = trees_of network.topology (senders_of network) (senders_of (narrowed network))
-          (same_map network.topology network.flows network.streams (map narrowed_stream network.streams) same legs
-          (λ (s : Sender). refl)) n.trees;
+          (same_map network.topology network.most_ports network.flows network.streams
+          (map narrowed_stream network.streams) same legs (λ (s : Sender). refl)) n.trees;
       names = subst AreApart
-          (same_map network.topology network.flows network.streams (map narrowed_stream network.streams) same
-          (λ (s : Sender). s.name) (λ (s : Sender). refl)) n.names;
+          (same_map network.topology network.most_ports network.flows network.streams
+          (map narrowed_stream network.streams) same (λ (s : Sender). s.name) (λ (s : Sender). refl)) n.names;
       identities = identified network.streams n.identities;
       few_streams = (let few = n.few_streams in omega (arith, length-map network.streams narrowed_stream));
       few_flows = n.few_flows;
       few_ports = (let few = n.few_ports in omega (arith, narrowed_ports network.streams));
+      most_ports = n.most_ports;
+      short_streams = All-map (HasShortRoutes network.most_ports) narrowed_stream network.streams n.short_streams;
+      short_flows = n.short_flows;
     }
 
 pub runs_are_kept : RunsAreKept
 runs_are_kept network run = (
-  legal_alike network.topology network.flows (map narrowed_stream network.streams) network.streams
+  legal_alike network.topology network.most_ports network.flows (map narrowed_stream network.streams) network.streams
       (narrowed-bare network.streams) run,
-  legal_alike network.topology network.flows network.streams (map narrowed_stream network.streams)
+  legal_alike network.topology network.most_ports network.flows network.streams (map narrowed_stream network.streams)
       (sym (narrowed-bare network.streams)) run,
 )
 
 pub talkers_are_kept : TalkersAreKept
 talkers_are_kept network releases station = (
-  keeps_alike network.topology network.flows (map narrowed_stream network.streams) network.streams
+  keeps_alike network.topology network.most_ports network.flows (map narrowed_stream network.streams) network.streams
       (narrowed-bare network.streams) releases station,
-  keeps_alike network.topology network.flows network.streams (map narrowed_stream network.streams)
+  keeps_alike network.topology network.most_ports network.flows network.streams (map narrowed_stream network.streams)
       (sym (narrowed-bare network.streams)) releases station,
 )
 
@@ -122,37 +128,53 @@ sound_by_spacing network rows n keeps =
     sound_by_rule spacing_rule lrq_judge network rows lrq_is_regulator.rule lrq_is_regulator.regulator n keeps
 
 -- what is promised of a frame does not read its sender's burst
-served_like : (rows : List Row) (s t : Sender) (journey : Travel) → bare s ≡ bare t → IsServed rows s journey
-    → IsServed rows t journey
-served_like rows s t journey e h =
-    let there : IsServed rows (bare s) journey = λ m within. record {
-      prompt = (h m within).prompt;
-      arrives = (h m within).arrives;
+served_like : (rows : List Row) (s t : Sender) (journey : Travel) (Asked : List ℕ → Type 0) → bare s ≡ bare t
+    → ((m : ℕ) → m < listener_count s → Asked (route_to s m)
+    → IsServedOn rows s journey.release (route_to s m) (way_to s journey m))
+    → (m : ℕ) → m < listener_count t → Asked (route_to t m)
+    → IsServedOn rows t journey.release (route_to t m) (way_to t journey m)
+served_like rows s t journey Asked e h =
+    let Serves : Sender → Type 0 = λ (x : Sender). (m : ℕ) → m < listener_count x → Asked (route_to x m)
+    → IsServedOn rows x journey.release (route_to x m) (way_to x journey m) in
+    let there : Serves (bare s) = λ m within asked. record {
+      prompt = (h m within asked).prompt;
+      arrives = (h m within asked).arrives;
     } in
-    let here : IsServed rows (bare t) journey = subst (λ (x : Sender). IsServed rows x journey) e there in
-    λ m within. record { prompt = (here m within).prompt; arrives = (here m within).arrives }
+    let here : Serves (bare t) = subst Serves e there in
+    λ m within asked. record { prompt = (here m within asked).prompt; arrives = (here m within asked).arrives }
 
-contained_like : (rows : List Row) (s t : Sender) (journey : Travel) → bare s ≡ bare t → IsContained rows s journey
-    → IsContained rows t journey
-contained_like rows s t journey e h = subst (λ (x : Sender). IsContained rows x journey) e h
+contained_like : (rows : List Row) (s t : Sender) (journey : Travel) (Asked : List ℕ → Type 0) → bare s ≡ bare t
+    → ((m : ℕ) → m < listener_count s → Asked (all_but_first (route_to s m))
+    → IsContainedOn rows s (route_to s m) (way_to s journey m))
+    → (m : ℕ) → m < listener_count t → Asked (all_but_first (route_to t m))
+    → IsContainedOn rows t (route_to t m) (way_to t journey m)
+contained_like rows s t journey Asked e h =
+    subst (λ (x : Sender). (m : ℕ) → m < listener_count x → Asked (all_but_first (route_to x m))
+    → IsContainedOn rows x (route_to x m) (way_to x journey m)) e h
 
 pub narrowed_is_sound : NarrowedIsSound
 narrowed_is_sound network rows n holds =
     let sound = sound_by_spacing (narrowed network) rows (narrowed_is_network network n)
     (rule_of_holding (narrowed network) rows holds) in
     let count = length-map network.streams narrowed_stream in
-    let alike = same_at network.topology network.flows (map narrowed_stream network.streams) network.streams
-    (narrowed-bare network.streams) in
+    let alike = same_at network.topology network.most_ports network.flows (map narrowed_stream network.streams)
+    network.streams (narrowed-bare network.streams) in
+    let kept : (releases : List Release) (path : List ℕ) → BridgesKeep spacing_rule network releases path
+    → BridgesKeep spacing_rule (narrowed network) releases path =
+    λ releases path bridges k d h bridge. (talkers_are_kept network releases _).1 (bridges k d h bridge) in
     record {
       served = λ run legal journey there stream keeps.
           served_like rows (sender_at (narrowed network) journey.release.sender)
-          (sender_at network journey.release.sender) journey (alike journey.release.sender)
-          (sound.served run ((runs_are_kept network run).1 legal) journey there (omega arith)
-          (rw (talker_alike network.topology network.flows (map narrowed_stream network.streams) network.streams
-          (narrowed-bare network.streams) journey.release.sender)
-          ((talkers_are_kept network _ _).1 keeps)));
+          (sender_at network journey.release.sender) journey
+          (BridgesKeep spacing_rule network (releases_of run)) (alike journey.release.sender)
+          (λ m within bridges. sound.served run ((runs_are_kept network run).1 legal) journey there (omega arith)
+          (rw (talker_alike network.topology network.most_ports network.flows (map narrowed_stream network.streams)
+          network.streams (narrowed-bare network.streams) journey.release.sender)
+          ((talkers_are_kept network _ _).1 keeps)) m within (kept (releases_of run) _ bridges));
       contained = λ run legal journey there stream.
           contained_like rows (sender_at (narrowed network) journey.release.sender)
-          (sender_at network journey.release.sender) journey (alike journey.release.sender)
-          (sound.contained run ((runs_are_kept network run).1 legal) journey there (omega arith));
+          (sender_at network journey.release.sender) journey
+          (BridgesKeep spacing_rule network (releases_of run)) (alike journey.release.sender)
+          (λ m within bridges. sound.contained run ((runs_are_kept network run).1 legal) journey there (omega arith)
+          m within (kept (releases_of run) _ bridges));
     }

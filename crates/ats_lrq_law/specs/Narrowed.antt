@@ -20,11 +20,11 @@ abbrev pub RunsAreKept : Type 0
 RunsAreKept = (network : DeclaredNetwork) (run : List Travel)
     → IsLegalBy lrq_judge (narrowed network) run ↔ IsLegalBy lrq_judge network run
 
--- and a station keeps its spacing exactly where it does with narrowed bursts
+-- and a node keeps its spacing exactly where it does with narrowed bursts
 abbrev pub TalkersAreKept : Type 0
-TalkersAreKept = (network : DeclaredNetwork) (releases : List Release) (station : ℕ)
-    → KeepsBucketsBy spacing_rule (narrowed network) releases station
-    ↔ KeepsBucketsBy spacing_rule network releases station
+TalkersAreKept = (network : DeclaredNetwork) (releases : List Release) (node : ℕ)
+    → KeepsBucketsBy spacing_rule (narrowed network) releases node
+    ↔ KeepsBucketsBy spacing_rule network releases node
 
 -- where rows keep each of the ten rules, they are sound for these regulators and spaced talkers
 abbrev pub SoundBySpacing : Type 0

@@ -33,7 +33,8 @@ pub fn generate_tells_one_line()
     ensures { GenerateTellsOneLine }
 {}
 
-/// A law: the frames of releases that may be run on it have no more ports together than those of a run may have.
+/// A law: the frames of releases that may be run on it have no more ports together than those of a run may have, where
+/// its routes have at most 16 ports.
 pub fn one_listener_has_few_ports()
     ensures { OneListenerHasFewPorts }
 {}

@@ -13,6 +13,7 @@ use Rattle.ats_streams.specs.declared.branch.Branch.{Branch}
 use Rattle.ats_streams.proofs.BranchLemmas.{begins_at, lead_of, lead_of_trunk, legs-length, route-at, routes-length}
 use Rattle.ats_streams.proofs.BranchLemmas.{trunk_within}
 use Rattle.ats_streams.proofs.RouteLemmas.{each_on_routes}
+use Rattle.ats_streams.specs.Path.{IsPath}
 use Rattle.ats_topology.specs.Port.{port_at}
 use Rattle.ats_topology.specs.Topology.{DeclaredTopology}
 use Rattle.ats_topology.specs.declared.port.Port.{Port}
@@ -22,7 +23,8 @@ use Rattle.ats_network.specs.Sender.{Sender}
 use Rattle.ats_network.specs.Senders.{sender_at, no_sender, IsSender}
 use Rattle.ats_network.proofs.SenderLemmas.{each_is_sender}
 use Rattle.ats_network.proofs.Parts.{part_pairs}
-use Rattle.ats_network.proofs.ValidRoutes.{from_talker, route_part, trunk_some, walk_first}
+use Rattle.ats_network.proofs.ValidRoutes.{from_talker, route_part, walk_first}
+use Rattle.ats_network.proofs.ValidRoutes.{route_begins}
 use Rattle.ats_certificate.specs.PortSums.{uses}
 use Rattle.ats_trace.specs.Journey.{Leg, Travel, IsJourney, legs_in}
 use Rattle.ats_trace.specs.Projections.{Hop, Crossing, Handed, crossings_along, crossings_over, handed_along}
@@ -204,51 +206,6 @@ route_apart topology s m keeps within =
     (part_pairs (λ p q. p ≢ q) route s.ports (route_part s.ports s.branches keeps.branches m many) keeps.apart)
 
 -- each route begins at the talker
-record Starts (ports : List Port) (talker : ℕ) (path : List ℕ) : Type 0 where
-  some : 0 < length path
-  from : (port_at ports (get_or path 0 0)).from ≡ talker
-
-starts_more : (ports : List Port) (talker : ℕ) (path more : List ℕ) → Starts ports talker path
-    → Starts ports talker (path ++ more)
-starts_more ports talker path more starts = record {
-  some = omega (arith, starts.some, length-append path more);
-  from = ap (λ (p : ℕ). (port_at ports p).from) (get_or_append_left path more 0 0 starts.some) ∙ starts.from;
-}
-
--- the first ports of a leg, with those in front of it
-lead_starts : (topology : DeclaredTopology) (ports : List ℕ) (branches : List Branch) → AreBranches ports branches
-    → (tree : IsTree topology ports branches) (fuel m hop : ℕ) → m ≤ fuel → m ≤ length branches → 1 ≤ hop
-    → Starts topology.ports tree.trunk.talker
-    (leg_at (leads_of ports branches) m ++ take hop (leg_at (legs_of ports branches) m))
-lead_starts topology ports branches are tree fuel zero hop enough within some =
-    let trunk : List ℕ = leg_at (legs_of ports branches) 0 in
-    let long : 0 < length trunk =
-    trunk_some topology.ports tree.trunk.talker tree.trunk.listener trunk tree.trunk.walk tree.trunk.differ in
-    subst (λ (l : List ℕ). Starts topology.ports tree.trunk.talker (l ++ take hop trunk))
-    (sym (lead_of_trunk ports branches))
-    (first trunk hop long some
-    (walk_first topology.ports tree.trunk.talker tree.trunk.listener trunk tree.trunk.walk long))
-  where
-    first : (path : List ℕ) (hop : ℕ) → 0 < length path → 1 ≤ hop
-        → (port_at topology.ports (get_or path 0 0)).from ≡ tree.trunk.talker
-        → Starts topology.ports tree.trunk.talker (take hop path)
-    first [] hop long some from = absurd (omega arith)
-    first (p ∷ path) zero long some from = absurd (omega arith)
-    first (p ∷ path) (suc hop) long some from = record { some = omega arith; from = from }
-lead_starts topology ports branches are tree zero (suc n) hop enough within some = absurd (omega arith)
-lead_starts topology ports branches are tree (suc fuel) (suc n) hop enough within some =
-    let legs : List (List ℕ) = legs_of ports branches in
-    let leads : List (List ℕ) = leads_of ports branches in
-    let b : Branch = get_or branches n no_branch in
-    let begins : BeginsEarlier legs (1 + n) b = begins_at legs 1 branches n are.begin (omega (arith, within)) in
-    let next : 1 + n ≡ suc n = omega arith in
-    let lead_is : leg_at leads (suc n) ≡ leg_at leads b.leg ++ take b.hop (leg_at legs b.leg) =
-    ap (λ (k : ℕ). leg_at leads k) (sym next) ∙ lead_of ports branches n are (omega (arith, within)) in
-    starts_more topology.ports tree.trunk.talker (leg_at leads (suc n)) (take hop (leg_at legs (suc n)))
-    (subst (Starts topology.ports tree.trunk.talker) (sym lead_is)
-    (lead_starts topology ports branches are tree fuel b.leg b.hop (omega (arith, begins.earlier, enough))
-    (omega (arith, begins.earlier, within)) begins.later))
-
 start_is : (ports : List Port) (path : List ℕ) → 0 < length path
     → start_of ports path ≡ (port_at ports (get_or path 0 0)).from
 start_is ports [] some = absurd (omega arith)
@@ -257,22 +214,15 @@ start_is ports (p ∷ path) some = refl
 pub route_starts : (topology : DeclaredTopology) (s : Sender) (m : ℕ) → IsSender topology s → m < listener_count s
     → start_of topology.ports (route_to s m) ≡ start_of topology.ports s.ports
 route_starts topology s m keeps within =
-    let legs : List (List ℕ) = legs_of s.ports s.branches in
     let tree : IsTree topology s.ports s.branches = keeps.tree in
-    let trunk : List ℕ = leg_at legs 0 in
-    let some : 0 < length trunk =
-    trunk_some topology.ports tree.trunk.talker tree.trunk.listener trunk tree.trunk.walk tree.trunk.differ in
-    let own : List ℕ = leg_at legs m in
-    let lead : List ℕ = leg_at (leads_of s.ports s.branches) m in
-    let first : Starts topology.ports tree.trunk.talker (lead ++ take (1 + length own) own) =
-    lead_starts topology s.ports s.branches keeps.branches tree m m (1 + length own) (omega arith)
-    (listeners_many s m within) (omega arith) in
-    let whole : lead ++ take (1 + length own) own ≡ route_to s m =
-    ap (λ (l : List ℕ). lead ++ l) (take_all (1 + length own) own (omega arith))
-    ∙ sym (route-at s.ports s.branches m [] (listeners_many s m within)) in
-    let route : Starts topology.ports tree.trunk.talker (route_to s m) =
-    subst (Starts topology.ports tree.trunk.talker) whole first in
-    start_is topology.ports (route_to s m) route.some ∙ route.from
+    let some : 0 < length (leg_at (legs_of s.ports s.branches) 0) = tree.trunk.some in
+    let many : m ≤ length s.branches = listeners_many s m within in
+    let whole : leg_at (leads_of s.ports s.branches) m ++ leg_at (legs_of s.ports s.branches) m ≡ route_to s m =
+    sym (route-at s.ports s.branches m [] many) in
+    let path : IsPath (route_to s m) = keeps.routes m [] (omega (arith, many, routes-length s.ports s.branches)) in
+    start_is topology.ports (route_to s m) (omega (arith, path.least))
+    ∙ subst (λ (route : List ℕ). (port_at topology.ports (get_or route 0 0)).from ≡ tree.trunk.talker) whole
+    (route_begins topology s.ports s.branches keeps.branches tree m many)
     ∙ sym (from_talker topology s.ports s.branches tree some)
     ∙ sym (start_is topology.ports s.ports (ports_some s.ports s.branches some))
   where

@@ -9,7 +9,6 @@ use Rattle.ats_topology.specs.Node.{is_station}
 use Rattle.ats_topology.specs.Port.{port_at}
 use Rattle.ats_topology.specs.Topology.{DeclaredTopology, node_at, IsStationAt}
 use Rattle.ats_network.specs.Sender.{Sender}
-use Rattle.ats_network.specs.Path.{IsValidPath}
 use Rattle.ats_network.specs.Bridges.{IsBridgeAt, MeetAtBridge}
 use Rattle.ats_network.specs.Network.{DeclaredNetwork, IsNetwork, senders_of}
 use Rattle.ats_network.specs.Senders.{sender_at, no_sender, IsSender, AllNeighbours}
@@ -26,11 +25,7 @@ pub not_both : (topology : DeclaredTopology) (node : ℕ) → IsStationAt topolo
     → (P : Type 0) → P
 not_both topology node s b P = absurd (both_ways (is_station (node_at topology.nodes node).kind) b.bridge s.station)
 
--- the first port of a path leaves a station, and each later one leaves a bridge
-pub first_station : (topology : DeclaredTopology) (p : ℕ) (path : List ℕ) → IsValidPath topology (p ∷ path)
-    → IsStationAt topology (port_at topology.ports p).from
-first_station topology p path v = subst (IsStationAt topology) (sym v.walk.0.from) v.begins
-
+-- each port of a path but the first leaves a bridge
 pub later_bridges : (topology : DeclaredTopology) (p : ℕ) (path : List ℕ) → AllNeighbours (MeetAtBridge topology)
     (p ∷ path) → All (λ (q : ℕ). IsBridgeAt topology (port_at topology.ports q).from) path
 later_bridges topology p [] each = All-nil (λ (q : ℕ). IsBridgeAt topology (port_at topology.ports q).from)

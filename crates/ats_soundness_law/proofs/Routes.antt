@@ -75,16 +75,16 @@ one_more along s j turned told m n h in_paths in_legs turns first =
 
 -- the way that turns into a branch
 turned : (s : Sender) (j : Travel) (m n k : ℕ) (path : List ℕ) (hops : List HopRecord) (ending : Ending)
-    → m ≤ n → suc n < length (legs_of s.ports s.branches) → suc n < length (legs_in j) → 1 ≤ k → k < length path
+    → m ≤ n → suc n < length (legs_of s.ports s.branches) → suc n < length (legs_in j) → k < length path
     → IsCopy (slice_get hops k) (own_ports s (suc n)) (own_leg j (suc n)) → Goes s j m path hops ending
     → Goes s j (suc n) (take k path ++ own_ports s (suc n)) (take k hops ++ (own_leg j (suc n)).hops)
     (own_leg j (suc n)).ending
-turned s j m n k path hops ending h in_paths in_legs some within copy goes =
+turned s j m n k path hops ending h in_paths in_legs within copy goes =
     let own : List ℕ = own_ports s (suc n) in
     let leg : Leg = own_leg j (suc n) in
     record {
       way = turned_way path hops ending k own leg within copy goes.way;
-      released = turned_release j.release hops k leg.hops some goes.released;
+      released = turned_release j.release hops k own leg copy goes.released;
       handed = λ frame. one_more (handed_on_leg frame j.release s) s j
           (handed_along frame j.release s (take k path ++ own) (take k hops ++ leg.hops))
           (handed_along frame j.release s path hops) m n h in_paths in_legs
@@ -202,7 +202,7 @@ on_branch s j n are copied within on =
     let goes : Goes s j (suc n) (take k (ports ++ path) ++ own) (take k (records ++ hops) ++ leg.hops) leg.ending =
     turned s j b.leg n k (ports ++ path) (records ++ hops) (own_leg j b.leg).ending (omega (arith, begins.earlier))
     (omega (arith, legs-length 0 s.ports s.branches, within)) (omega (arith, copies_many s j copied, within))
-    (omega (arith, begins.later)) (omega (arith, length-append ports path, begins.within))
+    (omega (arith, length-append ports path, begins.within))
     (subst (λ (o : Option HopRecord). IsCopy o own leg) start copy) on.goes in
     let lead_long : length (lead s (suc n)) ≡ k =
     ap (λ (ps : List ℕ). length ps) lead_is

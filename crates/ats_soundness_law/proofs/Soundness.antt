@@ -5,8 +5,8 @@ use Rattle.std.proofs.lemmas.Bool.{and_from, eq-eqb}
 use Rattle.std.proofs.lemmas.List.Elements.{All-nil, All-cons, All-tail, All-contains, All-contains_itself}
 use Rattle.ats_facts.proofs.Lists.{all_right, All-from_filter}
 use Rattle.ats_network.specs.Sender.{Sender}
-use Rattle.ats_network.specs.Path.{IsValidPath}
-use Rattle.ats_network.specs.Bridges.{MeetAtBridge}
+use Rattle.ats_topology.specs.Port.{port_at}
+use Rattle.ats_network.specs.Bridges.{IsBridgeAt, MeetAtBridge}
 use Rattle.ats_network.specs.Network.{DeclaredNetwork}
 use Rattle.ats_network.specs.Senders.{sender_at, IsSender, AllNeighbours}
 use Rattle.ats_certificate.specs.PortSums.{uses}
@@ -22,27 +22,28 @@ use Rattle.ats_trace.specs.Run.{IsLegalBy, releases_of}
 use Rattle.ats_group.specs.Judge.{Judge, ats_judge, bucket_rule}
 use Rattle.ats_group_law.proofs.Regulator.{ats_is_regulator}
 use Rattle.ats_trace.specs.Talker.{start_of, talker_of, KeepsBucketsBy}
-use Rattle.ats_trace.specs.Ways.{route_to, way_to}
+use Rattle.ats_trace.specs.Ways.{listener_count, route_to, way_to}
 use Rattle.ats_trace.specs.declared.journey.Release.{Release}
 use Rattle.ats_trace.specs.HopRecord.{HopRecord}
 use Rattle.ats_trace.specs.declared.journey.Ending.{Ending}
 use Rattle.ats_soundness_law.specs.Laws.{PathLaw, Containment, SoundByRule, SoundByRules, CertificateIsSound}
+use Rattle.ats_soundness_law.specs.Laws.{StationsPromiseAll}
 use Rattle.ats_soundness_law.specs.Rules.{Rule, rows_are_there, Keeps}
-use Rattle.ats_soundness_law.specs.Sound.{IsEligibleBy, IsPrompt, IsServed, IsPromptIfEligible, IsContained}
+use Rattle.ats_soundness_law.specs.Sound.{BridgesKeep, IsEligibleBy, IsPrompt, IsServedOn, IsPromptIfEligible}
+use Rattle.ats_soundness_law.specs.Sound.{IsContainedOn}
 use Rattle.ats_soundness_law.specs.Sound.{all_but_first, bounds_of}
 use Rattle.ats_soundness_law.proofs.Along.{hop_of, all_hops, all_were_sent, all_have_crossed}
 use Rattle.ats_soundness_law.proofs.Behind.{way_on}
-use Rattle.ats_soundness_law.proofs.Bridge.{bridge_fed}
 use Rattle.ats_soundness_law.proofs.EachRule.{rule_of_holding, each_row_holds}
 use Rattle.ats_soundness_law.proofs.Journeys.{crossings_on_route, each_on_route, handed_on_route, journey_route}
 use Rattle.ats_soundness_law.proofs.Journeys.{route_starts}
 use Rattle.ats_soundness_law.proofs.Offered.{IsFed}
 use Rattle.ats_soundness_law.proofs.Known.{Case, IsTold, told}
 use Rattle.ats_soundness_law.proofs.Lifts.{Numbered, numbered}
-use Rattle.ats_soundness_law.proofs.Paths.{sender_is, first_station, later_bridges, uses_own}
+use Rattle.ats_soundness_law.proofs.Paths.{sender_is, later_bridges, uses_own}
 use Rattle.ats_soundness_law.proofs.Routes.{OnRoute}
 use Rattle.ats_soundness_law.proofs.Serving.{RowsHold, Serves, serves}
-use Rattle.ats_soundness_law.proofs.Station.{station_fed}
+use Rattle.ats_soundness_law.proofs.Node.{bridges_keep, port_fed}
 use Rattle.ats_soundness_law.proofs.Streams.{stream_used}
 use Rattle.ats_soundness_law.proofs.Way.{ArrivesWithin, EligibleWithin, ComesBy, prompt, prompt_once, within_sum}
 
@@ -130,25 +131,25 @@ eligible_within network run rows n r s path hops ending all given k d h =
     EligibleBehind rows s port =
         λ (h : Handed). IsEligibleBy (h.crossing.sent.eligible + bounds_of rows s port) (λ e. Unit {0}) h.verdict
 
--- the ports of a path are offered what they may be asked to send: the first where the talker keeps its buckets, the
--- others in any case
+-- the ports of a path behind another one are offered what they may be asked to send, where the bridges that they leave
+-- keep their buckets; and so is the first, where its node does
 later_offered : {judge : Judge} {rule : Declared → List Frame → Type 0} (network : DeclaredNetwork) (run : List Travel)
     → Case judge rule network run
     → (p : ℕ) (path : List ℕ) → AllNeighbours (MeetAtBridge network.topology) (p ∷ path)
-    → All (λ q. IsFed rule network run q) path
-later_offered network run c p path meet k d h =
-    bridge_fed network run (get_or path k d) c (later_bridges network.topology p path meet k d h)
+    → BridgesKeep rule network (releases_of run) path → All (λ q. IsFed rule network run q) path
+later_offered network run c p path meet bridges k d h =
+    port_fed network run (get_or path k d) c (bridges k d h (later_bridges network.topology p path meet k d h))
 
 all_offered : {judge : Judge} {rule : Declared → List Frame → Type 0} (network : DeclaredNetwork) (run : List Travel)
-    → Case judge rule network run → (path : List ℕ)
-    → IsValidPath network.topology path → AllNeighbours (MeetAtBridge network.topology) path
+    → Case judge rule network run → (path : List ℕ) → AllNeighbours (MeetAtBridge network.topology) path
     → KeepsBucketsBy rule network (releases_of run) (start_of network.topology.ports path)
-    → All (λ q. IsFed rule network run q) path
-all_offered {judge} {rule} network run c [] valid meet keeps = All-nil (λ q. IsFed rule network run q)
-all_offered {judge} {rule} network run c (p ∷ path) valid meet keeps =
-    All-cons (λ q. IsFed rule network run q) p path
-    (station_fed network run p c (first_station network.topology p path valid) keeps)
-    (later_offered network run c p path meet)
+    → BridgesKeep rule network (releases_of run) path → All (λ q. IsFed rule network run q) path
+all_offered {judge} {rule} network run c [] meet keeps bridges = All-nil (λ q. IsFed rule network run q)
+all_offered {judge} {rule} network run c (p ∷ path) meet keeps bridges =
+    let Keeps : ℕ → Type 0 = λ (q : ℕ). IsBridgeAt network.topology (port_at network.topology.ports q).from
+    → KeepsBucketsBy rule network (releases_of run) (port_at network.topology.ports q).from in
+    All-cons (λ q. IsFed rule network run q) p path (port_fed network run p c keeps)
+    (later_offered network run c p path meet (All-tail Keeps p path bridges))
 
 -- a journey of a stream in a legal run, by rows that hold
 record OfStream (judge : Judge) (rule : Declared → List Frame → Type 0) (network : DeclaredNetwork) (run : List Travel)
@@ -202,21 +203,23 @@ served : {judge : Judge} {rule : Declared → List Frame → Type 0} (network : 
     (run : List Travel) → Case judge rule network run
     → RowsHold network rows → (j : Travel) → Contains run j → IsOfStream network j
     → KeepsBucketsBy rule network (releases_of run) (talker_of network j.release.sender)
-    → IsServed rows (sender_at network j.release.sender) j
-served {judge} {rule} network rows run c holds j there stream keeps =
+    → (m : ℕ) → m < listener_count (sender_at network j.release.sender)
+    → BridgesKeep rule network (releases_of run) (route_to (sender_at network j.release.sender) m)
+    → IsServedOn rows (sender_at network j.release.sender) j.release
+    (route_to (sender_at network j.release.sender) m) (way_to (sender_at network j.release.sender) j m)
+served {judge} {rule} network rows run c holds j there stream keeps m within bridges =
     let o : OfStream judge rule network run rows j = of_stream network run rows j c holds there stream in
     let r : Release = j.release in
     let s : Sender = sender_at network r.sender in
     let n : ℕ = o.numbered.number in
-    λ m within. (
     let route : List ℕ = route_to s m in
     let way : Leg = way_to s j m in
     let on : OnRoute s j m = journey_route network j m c.net o.is within in
     let serve = all_serve network run rows j o route (each_on_route (λ q. uses q s ≡ true) s m (uses_own s) within)
     (each_on_route (λ q. q < length network.topology.ports) s m o.keeps.ports within)
-    (all_offered network run c route (o.keeps.valid m [] within) (o.keeps.bridges m [] within)
+    (all_offered network run c route (o.keeps.bridges m [] within)
     (subst (KeepsBucketsBy rule network (releases_of run))
-    (sym (route_starts network.topology s m o.keeps within)) keeps)) in
+    (sym (route_starts network.topology s m o.keeps within)) keeps) bridges) in
     let is_prompt : IsPrompt (bounds_of rows s) r.at.0 route way.hops way.ending =
     prompt (bounds_of rows s) n r s route way.hops way.ending r.at.0 on.way
     (arrive_within network run rows n r s route way.hops way.ending serve
@@ -227,7 +230,7 @@ served {judge} {rule} network rows run c holds j there stream keeps =
     record {
       prompt = is_prompt;
       arrives = within_sum (bounds_of rows s) route way.hops way.ending r.at.0 is_prompt;
-    })
+    }
 
 none_once : (bound : ℕ → ℕ) (path : List ℕ) (ending : Ending) → IsPromptIfEligible bound path [] ending
 none_once bound [] ending = tt
@@ -238,16 +241,17 @@ contained_behind : {judge : Judge} {rule : Declared → List Frame → Type 0} (
     (run : List Travel) (rows : List Row) (j : Travel)
     → OfStream judge rule network run rows j → (n : ℕ) (path : List ℕ) (hops : List HopRecord) (ending : Ending)
     → IsWay path hops ending → AllNeighbours (MeetAtBridge network.topology) path
+    → BridgesKeep rule network (releases_of run) (all_but_first path)
     → All (λ q. uses q (sender_at network j.release.sender) ≡ true) path
     → All (λ q. q < length network.topology.ports) path
     → All (IsThere network run) (crossings_along n j.release (sender_at network j.release.sender) path hops ending)
     → All (IsGiven network run) (handed_along n j.release (sender_at network j.release.sender) path hops)
     → IsPromptIfEligible (bounds_of rows (sender_at network j.release.sender)) (all_but_first path)
     (all_but_first hops) ending
-contained_behind network run rows j o n [] hops ending way meet used within there given = tt
-contained_behind network run rows j o n (p ∷ path) [] ending way meet used within there given =
+contained_behind network run rows j o n [] hops ending way meet bridges used within there given = tt
+contained_behind network run rows j o n (p ∷ path) [] ending way meet bridges used within there given =
     none_once (bounds_of rows (sender_at network j.release.sender)) path ending
-contained_behind network run rows j o n (p ∷ path) (hop ∷ hops) ending way meet used within there given =
+contained_behind network run rows j o n (p ∷ path) (hop ∷ hops) ending way meet bridges used within there given =
     let r : Release = j.release in
     let s : Sender = sender_at network r.sender in
     let sent : Option Transmission = transmission_of n r (class_at s p) hop in
@@ -255,7 +259,7 @@ contained_behind network run rows j o n (p ∷ path) (hop ∷ hops) ending way m
     λ (hs : List HopRecord). IsPromptIfEligible (bounds_of rows s) path hs ending in
     let serve = all_serve network run rows j o path (All-tail (λ q. uses q s ≡ true) p path used)
     (All-tail (λ q. q < length network.topology.ports) p path within)
-    (later_offered network run o.case p path meet) in
+    (later_offered network run o.case p path meet bridges) in
     way_on (Once hops) path hop.verdict hop.sent hops ending
     (λ on. prompt_once (bounds_of rows s) n r s path hops ending on
     (arrive_within network run rows n r s path hops ending serve (all_right (IsThere network run)
@@ -268,20 +272,22 @@ contained_behind network run rows j o n (p ∷ path) (hop ∷ hops) ending way m
 contained : {judge : Judge} {rule : Declared → List Frame → Type 0} (network : DeclaredNetwork) (rows : List Row)
     (run : List Travel) → Case judge rule network run
     → RowsHold network rows → (j : Travel) → Contains run j → IsOfStream network j
-    → IsContained rows (sender_at network j.release.sender) j
-contained {judge} {rule} network rows run c holds j there stream =
+    → (m : ℕ) → m < listener_count (sender_at network j.release.sender)
+    → BridgesKeep rule network (releases_of run) (all_but_first (route_to (sender_at network j.release.sender) m))
+    → IsContainedOn rows (sender_at network j.release.sender) (route_to (sender_at network j.release.sender) m)
+    (way_to (sender_at network j.release.sender) j m)
+contained {judge} {rule} network rows run c holds j there stream m within bridges =
     let o : OfStream judge rule network run rows j = of_stream network run rows j c holds there stream in
     let s : Sender = sender_at network j.release.sender in
     let n : ℕ = o.numbered.number in
-    λ m within. (
     let route : List ℕ = route_to s m in
     let way : Leg = way_to s j m in
     let on : OnRoute s j m = journey_route network j m c.net o.is within in
-    contained_behind network run rows j o n route way.hops way.ending on.way (o.keeps.bridges m [] within)
+    contained_behind network run rows j o n route way.hops way.ending on.way (o.keeps.bridges m [] within) bridges
     (each_on_route (λ q. uses q s ≡ true) s m (uses_own s) within)
     (each_on_route (λ q. q < length network.topology.ports) s m o.keeps.ports within)
     (crossings_on_route (IsThere network run) network n j m on o.numbered.crossings)
-    (handed_on_route (IsGiven network run) network n j m on o.numbered.handed))
+    (handed_on_route (IsGiven network run) network n j m on o.numbered.handed)
 
 -- what the rules say of the rows
 rows_hold : (network : DeclaredNetwork) (rows : List Row) → ((rule : Rule) → Keeps rule network rows)
@@ -296,8 +302,10 @@ sound_by_rule rule judge network rows rules regulator net keeps =
     let case : (run : List Travel) → IsLegalBy judge network run → Case judge rule network run =
     λ run legal. record { rules = rules; regulator = regulator; net = net; legal = legal } in
     record {
-      served = λ run legal j there stream kept. served network rows run (case run legal) holds j there stream kept;
-      contained = λ run legal j there stream. contained network rows run (case run legal) holds j there stream;
+      served = λ run legal j there stream kept m within bridges.
+          served network rows run (case run legal) holds j there stream kept m within bridges;
+      contained = λ run legal j there stream m within bridges.
+          contained network rows run (case run legal) holds j there stream m within bridges;
     }
 
 pub sound_by_rules : SoundByRules
@@ -313,3 +321,19 @@ path_law network rows net holds = (certificate_is_sound network rows net holds).
 
 pub containment : Containment
 containment network rows net holds = (certificate_is_sound network rows net holds).contained
+
+-- where no bridge has frames of its own, each keeps its buckets, and nothing is asked of them
+pub stations_promise_all : (rule : Declared → List Frame → Type 0) → StationsPromiseAll rule
+stations_promise_all rule judge network rows stations = (
+  λ sound. record {
+    served = λ run legal j there stream kept m within. sound.served run legal j there stream kept m within
+        (bridges_keep rule network (releases_of run) (route_to (sender_at network j.release.sender) m) stations);
+    contained = λ run legal j there stream m within. sound.contained run legal j there stream m within
+        (bridges_keep rule network (releases_of run)
+        (all_but_first (route_to (sender_at network j.release.sender) m)) stations);
+  },
+  λ sound. record {
+    served = λ run legal j there stream kept m within bridges. sound.served run legal j there stream kept m within;
+    contained = λ run legal j there stream m within bridges. sound.contained run legal j there stream m within;
+  },
+)

@@ -51,11 +51,17 @@ turned_way (p ∷ path) (hop ∷ hops) ending (suc k) own leg within copy way =
     turned_on path hop.verdict hop.sent hops ending k own leg
     (turned_way path hops ending k own leg (omega (arith, within)) copy) copy way
 
-pub turned_release : (release : Release) (hops : List HopRecord) (k : ℕ) (more : List HopRecord) → 1 ≤ k
-    → IsReleased release hops → IsReleased release (take k hops ++ more)
-turned_release release [] k more some is = absurd is
-turned_release release (hop ∷ hops) zero more some is = absurd (omega arith)
-turned_release release (hop ∷ hops) (suc k) more some is = is
+-- a copy that begins at the talker is released as the frame
+begins_released : (release : Release) (start : HopRecord) (own : List HopRecord) → start.arrival ≡ release.at
+    → start.verdict ≡ Eligible release.at → BeginsAs start own → IsReleased release own
+begins_released release start [] came judged begins = absurd begins
+begins_released release start (hop ∷ own) came judged begins = (begins.0 ∙ came, begins.1 ∙ judged)
+
+pub turned_release : (release : Release) (hops : List HopRecord) (k : ℕ) (own : List ℕ) (leg : Leg)
+    → IsCopy (slice_get hops k) own leg → IsReleased release hops → IsReleased release (take k hops ++ leg.hops)
+turned_release release [] k own leg copy is = absurd is
+turned_release release (hop ∷ hops) zero own leg copy is = begins_released release hop leg.hops is.0 is.1 copy.0
+turned_release release (hop ∷ hops) (suc k) own leg copy is = is
 
 -- the copy came, and was judged, as the frame at the hop where the branch begins
 abbrev told_at : ℕ → ℕ → ℕ → Transmission → Ps → Verdict → List Handed

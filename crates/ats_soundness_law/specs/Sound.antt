@@ -1,6 +1,9 @@
-use Rattle.std.specs.Prelude.{ℕ, ◌+◌, ◌<◌, ◌≤◌, List, [], ◌∷◌, sum_by, Contains}
+use Rattle.std.specs.Prelude.{ℕ, ◌+◌, ◌<◌, ◌≤◌, List, [], ◌∷◌, length, sum_by, All, Contains}
+use Rattle.ats_topology.specs.Port.{port_at}
+use Rattle.ats_topology.specs.Topology.{IsStationAt}
+use Rattle.ats_network.specs.Bridges.{IsBridgeAt}
 use Rattle.ats_network.specs.Sender.{Sender}
-use Rattle.ats_network.specs.Network.{DeclaredNetwork}
+use Rattle.ats_network.specs.Network.{DeclaredNetwork, senders_of}
 use Rattle.ats_network.specs.Senders.{sender_at}
 use Rattle.ats_certificate.specs.Certificate.{bound_of_hop}
 use Rattle.ats_certificate.specs.declared.row.Row.{Row}
@@ -67,36 +70,70 @@ abbrev pub all_but_first : {X : Type 0} → List X → List X
 all_but_first [] = []
 all_but_first (x ∷ xs) = xs
 
--- on this way along a route a frame that the first bridge lets through is prompt from there on
+-- on this way along a route a frame that is eligible behind the first port is prompt from there on
 abbrev pub IsContainedOn : List Row → Sender → List ℕ → Leg → Type 0
 IsContainedOn rows sender route way =
     IsPromptIfEligible (bounds_of rows sender) (all_but_first route) (all_but_first way.hops) way.ending
 
--- so it is on its way to each listener, whatever its own talker does
+-- so it is on its way to each listener
 abbrev pub IsContained : List Row → Sender → Travel → Type 0
 IsContained rows sender journey = (listener : ℕ) → listener < listener_count sender
     → IsContainedOn rows sender (route_to sender listener) (way_to sender journey listener)
 
+-- each bridge that one of these ports leaves keeps this rule: its own frames are as it says. One at which no route
+-- begins has none, and keeps each rule
+abbrev pub BridgesKeep : (Declared → List Frame → Type 0) → DeclaredNetwork → List Release → List ℕ → Type 0
+BridgesKeep rule network releases ports =
+    All (λ p. IsBridgeAt network.topology (port_at network.topology.ports p).from
+    → KeepsBucketsBy rule network releases (port_at network.topology.ports p).from) ports
+
 -- in each legal run, where groups judge so, each frame of a stream whose talker keeps this rule is served at each
--- listener
+-- listener such that the bridges that ports of the route there leave keep it too
 abbrev pub AreServed : Judge → (Declared → List Frame → Type 0) → DeclaredNetwork → List Row → Type 0
 AreServed judge rule network rows = (run : List Travel) → IsLegalBy judge network run → (journey : Travel)
     → Contains run journey → IsOfStream network journey
     → KeepsBucketsBy rule network (releases_of run) (talker_of network journey.release.sender)
-    → IsServed rows (sender_at network journey.release.sender) journey
+    → (listener : ℕ) → listener < listener_count (sender_at network journey.release.sender)
+    → BridgesKeep rule network (releases_of run) (route_to (sender_at network journey.release.sender) listener)
+    → IsServedOn rows (sender_at network journey.release.sender) journey.release
+    (route_to (sender_at network journey.release.sender) listener)
+    (way_to (sender_at network journey.release.sender) journey listener)
 
--- and each frame of any stream is contained, whatever its talker does
-abbrev pub AreContained : Judge → DeclaredNetwork → List Row → Type 0
-AreContained judge network rows = (run : List Travel) → IsLegalBy judge network run → (journey : Travel)
+-- and each frame of any stream is contained, whatever its talker does, on its way to each listener such that the
+-- bridges that ports of the route but the first leave keep the rule
+abbrev pub AreContained : Judge → (Declared → List Frame → Type 0) → DeclaredNetwork → List Row → Type 0
+AreContained judge rule network rows = (run : List Travel) → IsLegalBy judge network run → (journey : Travel)
     → Contains run journey → IsOfStream network journey
-    → IsContained rows (sender_at network journey.release.sender) journey
+    → (listener : ℕ) → listener < listener_count (sender_at network journey.release.sender)
+    → BridgesKeep rule network (releases_of run)
+    (all_but_first (route_to (sender_at network journey.release.sender) listener))
+    → IsContainedOn rows (sender_at network journey.release.sender)
+    (route_to (sender_at network journey.release.sender) listener)
+    (way_to (sender_at network journey.release.sender) journey listener)
 
 -- the bounds of these rows are sound, where groups judge so and talkers keep this rule: frames are served and contained
 pub record IsSoundBy (judge : Judge) (rule : Declared → List Frame → Type 0) (network : DeclaredNetwork)
     (rows : List Row) : Type 0 where
   pub served : AreServed judge rule network rows
-  pub contained : AreContained judge network rows
+  pub contained : AreContained judge rule network rows
 
 -- and the groups are those of Asynchronous Traffic Shaping, and talkers keep their buckets
 abbrev pub IsSound : DeclaredNetwork → List Row → Type 0
 IsSound network rows = IsSoundBy ats_judge bucket_rule network rows
+
+-- no bridge has frames of its own: the routes of each sender begin at a station
+abbrev pub BeginAtStations : DeclaredNetwork → Type 0
+BeginAtStations network =
+    (i : ℕ) → i < length (senders_of network) → IsStationAt network.topology (talker_of network i)
+
+-- what sound bounds promise then, where nothing is asked of bridges: each frame of a stream whose talker keeps this
+-- rule is served at each listener, and each frame of any stream is contained on its way to each
+pub record IsSoundFromStations (judge : Judge) (rule : Declared → List Frame → Type 0) (network : DeclaredNetwork)
+    (rows : List Row) : Type 0 where
+  pub served : (run : List Travel) → IsLegalBy judge network run → (journey : Travel)
+      → Contains run journey → IsOfStream network journey
+      → KeepsBucketsBy rule network (releases_of run) (talker_of network journey.release.sender)
+      → IsServed rows (sender_at network journey.release.sender) journey
+  pub contained : (run : List Travel) → IsLegalBy judge network run → (journey : Travel)
+      → Contains run journey → IsOfStream network journey
+      → IsContained rows (sender_at network journey.release.sender) journey

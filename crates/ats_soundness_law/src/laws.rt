@@ -5,8 +5,8 @@ ghost use Rattle.ats_bucket.specs.Conforming.{Frame};
 ghost use Rattle.ats_streams.specs.declared.traffic.Declared.{Declared};
 ghost use Rattle.ats_soundness_law.specs.OneListener.{OneListenerIsServedAlone};
 ghost use Rattle.ats_soundness_law.specs.Rules.{HoldsIsEachRule};
-ghost use Rattle.ats_soundness_law.specs.Laws.{StationIsOffered, BridgeIsOffered, ShapingForFree, PathLaw, Containment};
-ghost use Rattle.ats_soundness_law.specs.Laws.{SoundByRule, SoundByRules, CertificateIsSound};
+ghost use Rattle.ats_soundness_law.specs.Laws.{PortIsOffered, ShapingForFree, PathLaw, Containment};
+ghost use Rattle.ats_soundness_law.specs.Laws.{SoundByRule, SoundByRules, CertificateIsSound, StationsPromiseAll};
 
 /// A rule that talkers may keep: what it asks of the frames of a stream, by what the stream declares.
 pub trait TalkerRule {
@@ -14,16 +14,11 @@ pub trait TalkerRule {
     ghost kept: { Declared → List Frame → Type 0 };
 }
 
-/// A port that leaves a station that keeps its buckets is asked to send no more than the port law
-/// wants: frames of declared sizes, and those of each stream conform to its rate and burst.
-pub fn station_is_offered()
-    ensures { StationIsOffered }
-{}
-
-/// So is each port that leaves a bridge, whatever any talker does, because all frames there came through the bridge's
-/// schedulers.
-pub fn bridge_is_offered()
-    ensures { BridgeIsOffered }
+/// A port that leaves a node that keeps its buckets, a station or a bridge, is asked to send no more
+/// than the port law wants: frames of declared sizes, and those of each stream conform to its rate and
+/// burst. What is not the node's own came through the schedulers of the node, whatever any talker does.
+pub fn port_is_offered()
+    ensures { PortIsOffered }
 {}
 
 /// Shaping is free: behind a port with a row that holds, and that is asked to send no more than the
@@ -34,15 +29,16 @@ pub fn shaping_for_free()
 {}
 
 /// The path law: where a certificate holds, each frame of a stream whose talker keeps its buckets
-/// is never discarded on its way to any listener, is eligible at each next hop within the bound of
-/// the hop before, and arrives within the sum of the bounds of the route there.
+/// is never discarded on its way to any listener such that the bridges on the way keep theirs too, is
+/// eligible at each next hop within the bound of the hop before, and arrives within the sum of the
+/// bounds of the route there.
 pub fn path_law()
     ensures { PathLaw }
 {}
 
-/// Containment: where a certificate holds, each frame of any stream that the first bridge lets
-/// through is never discarded from there on, on its way to any listener, and is eligible at each
-/// next hop within the bound of the hop before.
+/// Containment: where a certificate holds, each frame of any stream that is eligible behind its first
+/// port is never discarded from there on, on its way to any listener such that the bridges from there
+/// on keep their buckets, and is eligible at each next hop within the bound of the hop before.
 pub fn containment()
     ensures { Containment }
 {}
@@ -64,6 +60,12 @@ pub fn sound_by_rule<R: TalkerRule>()
 /// among equals.
 pub fn certificate_is_sound()
     ensures { CertificateIsSound }
+{}
+
+/// Where all routes begin at stations, each bridge keeps its buckets whatever is released: sound bounds
+/// promise what they do where the talker alone is asked to keep its own.
+pub fn stations_promise_all<R: TalkerRule>()
+    ensures { StationsPromiseAll R.kept }
 {}
 
 /// A certificate holds exactly where it keeps each of ten rules, has no other row, is in order, and

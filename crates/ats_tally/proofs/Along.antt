@@ -8,6 +8,7 @@ use Rattle.std.proofs.lemmas.List.Sums.{sum_by-append}
 use Rattle.ats_streams.specs.Branches.{AreBranches, first_from, leg_at, legs_of, no_branch, routes_of}
 use Rattle.ats_streams.specs.Path.{IsPath}
 use Rattle.ats_streams.specs.declared.branch.Branch.{Branch}
+use Rattle.ats_streams.specs.declared.path.TheConstants.{MAX_PORTS}
 use Rattle.ats_streams.proofs.BranchLemmas.{Spans, spans_between, spans_last}
 use Rattle.ats_streams.proofs.WalkedRoutes.{IsBehind, behind_all, behind_first, behind_fits, behind_next, hop_within}
 
@@ -68,10 +69,10 @@ module _ (amount : ℕ → ℕ) (ports : List ℕ) (branches : List Branch) (leg
         most = subst (λ (n : ℕ). sum ≤ n * 10 ^ 36) long small;
       }
 
-  -- which are 16 at most
-  pub few_first : (own : List ℕ) → own ≡ leg_at (legs_of ports branches) leg → length own ≤ 16
+  -- which are 64 at most
+  pub few_first : (own : List ℕ) → own ≡ leg_at (legs_of ports branches) leg → length own ≤ MAX_PORTS
   few_first own own_is =
-      subst (λ (l : List ℕ). length l ≤ 16) (sym own_is)
+      subst (λ (l : List ℕ). length l ≤ MAX_PORTS) (sym own_is)
       (behind_fits ports branches leg leg (leg_at (legs_of ports branches) leg) routes listed
       (behind_first ports branches leg listed))
 
@@ -94,21 +95,21 @@ module _ (amount : ℕ → ℕ) (ports : List ℕ) (branches : List Branch) (leg
         most = omega (arith, small, so_far.most, many, length-append front so_far.rest);
       }
 
-  -- which are 16 at most as well
+  -- which are 64 at most as well
   pub few_next : (at sum : ℕ) → IsSummed amount ports branches leg at sum → 0 < at
-      → (get_or branches (at - 1) no_branch).hop ≤ 16
+      → (get_or branches (at - 1) no_branch).hop ≤ MAX_PORTS
   few_next at sum so_far some =
       let b : Branch = get_or branches (at - 1) no_branch in
       let before : List ℕ = leg_at (legs_of ports branches) b.leg in
       let front : List ℕ = take b.hop before in
       let within : b.hop < length before = hop_within ports branches at are so_far.behind.within some in
-      let fits : length (front ++ so_far.rest) ≤ 16 =
+      let fits : length (front ++ so_far.rest) ≤ MAX_PORTS =
       behind_fits ports branches leg b.leg (front ++ so_far.rest) routes listed
       (behind_next ports branches leg at so_far.rest are so_far.behind some) in
       omega (arith, fits, within, length-take b.hop before, length-append front so_far.rest)
 
   -- so the sum stays small
-  pub sum_small : (at sum : ℕ) → IsSummed amount ports branches leg at sum → sum ≤ 16 * 10 ^ 36
+  pub sum_small : (at sum : ℕ) → IsSummed amount ports branches leg at sum → sum ≤ 64 * 10 ^ 36
   sum_small at sum so_far =
       omega (arith, so_far.most, behind_fits ports branches leg at so_far.rest routes listed so_far.behind)
 

@@ -28,7 +28,7 @@ pub enum Reason {
     Deadline {
         /// The stream's name.
         stream: Name,
-        /// The name of the listener's station; `None` for the stream's first listener.
+        /// The name of the listener's node; `None` for the stream's first listener.
         listener: Option<Name>,
         /// Their sum, in picoseconds.
         sum: u128,

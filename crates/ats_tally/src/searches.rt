@@ -118,7 +118,7 @@ fn late_for(delays: &Delays, stream: u32, leg: u32) -> Option<Reason>
     })
 }
 
-/// The name by which a stream's listener, that of one leg counted from 0, is told from the first: that of its station;
+/// The name by which a stream's listener, that of one leg counted from 0, is told from the first: that of its node;
 /// the first has none.
 pub fn listener_name(network: &Network, stream: u32, leg: u32) -> Option<Name>
     requires stream { stream < length network.now.streams }

@@ -8,7 +8,7 @@ use crate::seen::SeenSender;
 use ats_num::wire_bits;
 
 /// The most senders of a network.
-pub const MAX_SENDERS: u64 = 5120;
+pub const MAX_SENDERS: u64 = 8192;
 
 /// What the senders that were counted make of a class.
 #[derive(Clone, Copy)]

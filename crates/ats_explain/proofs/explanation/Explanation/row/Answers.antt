@@ -101,6 +101,6 @@ returns-clause-bursts c =
     placed_at network c.self.inside.places c.args.port c.args.class c.get.result c.self.invariant.rules placed used
     c.get.ensures in
     let rows : c.rows.result.now ≡ least_certificate network = c.rows.ensures.value ∙ c.self.invariant.least in
-    subst (λ (r : Row). r.bursts ≤ 5120000000000)
+    subst (λ (r : Row). r.bursts ≤ 8192000000000)
     (sym (ap (λ (rows : List Row). get_or rows c.get.result _) rows ∙ found.row _))
     (bursts_most network c.args.port c.args.class c.self.invariant.rules used)

@@ -2,6 +2,7 @@ use Rattle.std.proofs.Common.{◌≡◌, ◌+◌, ◌-◌, ◌≤◌, ◌*◌, �
 use Rattle.ats_streams.specs.Branches.{leg_at, legs_of, no_branch}
 use Rattle.ats_streams.specs.Stream.{DeclaredStream}
 use Rattle.ats_streams.specs.declared.branch.Branch.{Branch}
+use Rattle.ats_streams.specs.declared.path.TheConstants.{MAX_PORTS}
 use Rattle.ats_streams.proofs.BranchLemmas.{leg_falls}
 use Rattle.ats_streams.proofs.WalkedRoutes.{hop_within}
 use Rattle.ats_network.specs.Sender.{stream_sender}
@@ -48,7 +49,7 @@ on_leg-sum-requires-in-loop-at-clause-hops c =
 pub on_leg-sum-requires-in-loop-at-clause-few : goal.on_leg-sum-requires-in-loop-at-clause-few
 on_leg-sum-requires-in-loop-at-clause-few c =
     let s : DeclaredStream = c.args.stream.now in
-    subst (λ (b : Branch). b.hop ≤ 16) (sym c.branch-branch.ensures.value)
+    subst (λ (b : Branch). b.hop ≤ MAX_PORTS) (sym c.branch-branch.ensures.value)
     (few_next (bound_of_hop c.args.self.now.rows (stream_sender s)) s.ports s.branches c.args.leg
     c.leg.ensures.rules.branches c.leg.ensures.rules.routes c.requires.leg c.loop-at.at c.loop-at.sum
     c.loop-at.invariant c.loop-at-test.true)

@@ -1,0 +1,117 @@
+-- What a node sends of the streams that begin there: their frames are sent at the first port of their routes alone,
+-- since no other port of a route leaves that node.
+use Rattle.std.proofs.Common.{◌≡◌, ◌≢◌, ℕ, ◌<◌, ◌≤◌, List, [], ◌∷◌, get_or, All, sum_by, sym, ap, ◌∙◌}
+use Rattle.std.proofs.Common.{subst, inl, inr, arith}
+use Rattle.std.specs.Prelude.{◌==◌}
+use Rattle.std.proofs.lemmas.Bool.{cases_eq, eqb-true}
+use Rattle.std.proofs.lemmas.List.Elements.{All-nil, All-cons, All-head, All-tail}
+use Rattle.std.proofs.lemmas.List.Sums.{sum_by-append}
+use Rattle.ats_facts.proofs.Lists.{pairs_head}
+use Rattle.ats_num.specs.declared.time.Ps.{Ps}
+use Rattle.ats_bucket.specs.Conforming.{Frame}
+use Rattle.ats_streams.specs.declared.traffic.Declared.{Declared}
+use Rattle.ats_topology.specs.Port.{port_at}
+use Rattle.ats_topology.specs.Topology.{DeclaredTopology}
+use Rattle.ats_topology.specs.Walks.{IsWalk}
+use Rattle.ats_topology.specs.declared.port.Port.{Port}
+use Rattle.ats_network.specs.Network.{DeclaredNetwork}
+use Rattle.ats_network.specs.Path.{IsValidPath}
+use Rattle.ats_network.specs.Sender.{Sender}
+use Rattle.ats_network.specs.Senders.{sender_at, IsSender}
+use Rattle.ats_network.proofs.PathLemmas.{nodes_to}
+use Rattle.ats_group.specs.Judge.{Judge}
+use Rattle.ats_port_law.specs.PortLaw.{frames_by}
+use Rattle.ats_port_law.proofs.Sums.{sum_by-none}
+use Rattle.ats_trace.specs.Journey.{Travel, IsJourney, IsReleased, class_at}
+use Rattle.ats_trace.specs.Projections.{Hop, hops_along, hop_at, journey_hops, sent_by, transmission_of}
+use Rattle.ats_trace.specs.Run.{releases_of}
+use Rattle.ats_trace.specs.Talker.{talker_of, start_of, frames_of}
+use Rattle.ats_trace.specs.Ways.{listener_count, route_to, way_to}
+use Rattle.ats_trace.specs.declared.journey.Release.{Release}
+use Rattle.ats_trace.specs.HopRecord.{HopRecord}
+use Rattle.ats_soundness_law.proofs.Along.{hop_by, all_hops}
+use Rattle.ats_soundness_law.proofs.Bits.{hop_weight, frames_weight, release_weight, releases_weight, counted-none}
+use Rattle.ats_soundness_law.proofs.Bits.{counted-le}
+use Rattle.ats_soundness_law.proofs.Journeys.{journey_route, route_starts}
+use Rattle.ats_soundness_law.proofs.Known.{Case}
+use Rattle.ats_soundness_law.proofs.Lifts.{run_travels-le}
+use Rattle.ats_soundness_law.proofs.Paths.{sender_is}
+use Rattle.ats_soundness_law.proofs.Routes.{OnRoute}
+use Rattle.ats_soundness_law.proofs.Weighed.{weighs_by_routes, weighs_for_own}
+use Rattle.ats_soundness_law.proofs.Weights.{first-le}
+
+-- the nodes that the ports of a walk leave are the first one and those to which the ports lead
+leave_from : (P : ℕ → Type 0) (ports : List Port) (a b : ℕ) (path : List ℕ) → IsWalk ports a b path → P a
+    → All P (nodes_to ports path) → All (λ (q : ℕ). P (port_at ports q).from) path
+leave_from P ports a b [] walk here all = All-nil (λ (q : ℕ). P (port_at ports q).from)
+leave_from P ports a b (q ∷ path) walk here all =
+    All-cons (λ (q : ℕ). P (port_at ports q).from) q path (subst P (sym walk.0.from) here)
+    (leave_from P ports (port_at ports q).to b path walk.1
+    (All-head P (port_at ports q).to (nodes_to ports path) all)
+    (All-tail P (port_at ports q).to (nodes_to ports path) all))
+
+-- so only the first port of a path leaves the node where it begins
+pub later_elsewhere : (topology : DeclaredTopology) (p : ℕ) (path : List ℕ) → IsValidPath topology (p ∷ path)
+    → All (λ (q : ℕ). (port_at topology.ports p).from ≢ (port_at topology.ports q).from) path
+later_elsewhere topology p path valid =
+    let ports : List Port = topology.ports in
+    let from : ℕ = (port_at ports p).from in
+    let away : All (λ (n : ℕ). from ≢ n) (nodes_to ports (p ∷ path)) =
+    pairs_head (λ m n. m ≢ n) from (nodes_to ports (p ∷ path)) valid.apart in
+    leave_from (λ (n : ℕ). from ≢ n) ports (port_at ports p).to valid.listener path valid.walk.1
+    (All-head (λ (n : ℕ). from ≢ n) (port_at ports p).to (nodes_to ports path) away)
+    (All-tail (λ (n : ℕ). from ≢ n) (port_at ports p).to (nodes_to ports path) away)
+
+-- a frame's weight at a port that leaves the node where its route begins is at most what it may be at the first port
+weight_along : (network : DeclaredNetwork) (i port : ℕ) (weight : Frame → ℕ) (most n : ℕ) (r : Release) (s : Sender)
+    (path : List ℕ) (hops : List HopRecord) → IsValidPath network.topology path → IsReleased r hops
+    → start_of network.topology.ports path ≡ (port_at network.topology.ports port).from
+    → ((p : ℕ) (times : Ps × Ps) → hop_weight i port weight (hop_by n r (class_at s p) p r.at times) ≤ most)
+    → sum_by (hop_weight i port weight) (hops_along n r s path hops) ≤ most
+weight_along network i port weight most n r s [] hops valid released starts first = omega arith
+weight_along network i port weight most n r s (p ∷ path) [] valid released starts first = omega arith
+weight_along network i port weight most n r s (p ∷ path) (hop ∷ hops) valid released starts first =
+    let f : Hop → ℕ = hop_weight i port weight in
+    let here = first-le f most n r s p hop.verdict hop.sent released.1 (first p) in
+    let none = sum_by-none f (hops_along n r s path hops)
+    (all_hops (λ (g : Hop). f g ≤ 0) n r s path hops
+    (λ k d h e times. counted-none (get_or path k d == port) _ (λ same.
+    later_elsewhere network.topology p path valid k d h
+    (starts ∙ ap (λ (q : ℕ). (port_at network.topology.ports q).from)
+    (sym (eqb-true (get_or path k d) port same)))))) in
+    let all = sum_by-append f (hop_at p (transmission_of n r (class_at s p) hop)) (hops_along n r s path hops) in
+    omega (arith, here, none, all)
+
+-- at a port of the node where a stream begins one frame of it weighs no more than its release
+journey_own : (network : DeclaredNetwork) (i port : ℕ) (weight : Frame → ℕ) (n : ℕ) (j : Travel)
+    → (c : IsJourney network j) → (net : IsSender network.topology (sender_at network j.release.sender))
+    → ((m : ℕ) → m < listener_count (sender_at network j.release.sender)
+    → OnRoute (sender_at network j.release.sender) j m)
+    → talker_of network j.release.sender ≡ (port_at network.topology.ports port).from
+    → (m : ℕ) → m < listener_count (sender_at network j.release.sender)
+    → sum_by (hop_weight i port weight) (hops_along n j.release (sender_at network j.release.sender)
+    (route_to (sender_at network j.release.sender) m) (way_to (sender_at network j.release.sender) j m).hops)
+    ≤ release_weight i weight j
+journey_own network i port weight n j is keeps on begins m within =
+    let s : Sender = sender_at network j.release.sender in
+    weight_along network i port weight (release_weight i weight j) n j.release s (route_to s m) (way_to s j m).hops
+    (keeps.valid m [] within) (on m within).released
+    (route_starts network.topology s m keeps within ∙ begins)
+    (λ p times. counted-le (p == port) (release_weight i weight j))
+
+-- so all its frames there weigh no more than all its releases
+pub own_weight : {judge : Judge} {rule : Declared → List Frame → Type 0} (network : DeclaredNetwork)
+    (run : List Travel) (i port : ℕ) (weight : Frame → ℕ) → Case judge rule network run
+    → talker_of network i ≡ (port_at network.topology.ports port).from
+    → sum_by weight (frames_by i (sent_by network run port)) ≤ sum_by weight (frames_of i (releases_of run))
+own_weight network run i port weight c begins =
+    let each = run_travels-le (IsJourney network) (hop_weight i port weight) (release_weight i weight) network 0 run
+    (λ n j is. elim (cases_eq j.release.sender i) as
+    (λ _. sum_by (hop_weight i port weight) (journey_hops network n j) ≤ release_weight i weight j) [
+      | inl same ↦ weighs_by_routes network i port weight (release_weight i weight j) n j c.net is
+          (journey_own network i port weight n j is (sender_is network c.net j.release.sender is.sender)
+          (λ m within. journey_route network j m c.net is within) (ap (talker_of network) same ∙ begins))
+      | inr other ↦ omega (arith, weighs_for_own network i port weight n j other)
+    ])
+    c.legal.journeys in
+    omega (arith, each, frames_weight network run i port weight, releases_weight run i weight)
