@@ -9,7 +9,7 @@ use Rattle.ats_num.specs.Places.{place_of}
 use Rattle.ats_streams.specs.Stream.{DeclaredStream, with_class}
 use Rattle.ats_topology.specs.Topology.{DeclaredTopology}
 use Rattle.ats_network.specs.Edits.{classed, less_at, no_stream, with_class_at, without_named}
-use Rattle.ats_network.specs.Network.{DeclaredNetwork, IsNetwork, declared_network}
+use Rattle.ats_network.specs.Network.{DeclaredNetwork, IsNetwork, network_within}
 use Rattle.ats_network.specs.Pushes.{with_stream}
 use Rattle.ats_network.specs.Tables.{stream_names}
 use Rattle.ats_network.proofs.Edited.{streams_apart}
@@ -36,6 +36,7 @@ remove-set (y ∷ xs) (suc n) x = ap (λ (t : List _). y ∷ t) (remove-set xs n
 pub same_at_first : (n : ℕ) (network : DeclaredNetwork) → AreSameBut n network network
 same_at_first n network = record {
   topology = refl;
+  most_ports = refl;
   flows = refl;
   many = refl;
   names = refl;
@@ -59,6 +60,7 @@ pub same_classed : (n class : ℕ) (old between new : DeclaredNetwork) → n < l
 same_classed n class old between new within same is =
     subst (λ (t : DeclaredNetwork). AreSameBut n old t) (sym is) (record {
       topology = same.topology;
+      most_ports = same.most_ports;
       flows = same.flows;
       many = length-set between.streams n _ ∙ same.many;
       names = map-set_same name between.streams n _ no_stream refl ∙ same.names;
@@ -103,8 +105,9 @@ still_found network stream between is same =
 same_less : (n : ℕ) (old new : DeclaredNetwork) → AreSameBut n old new → without_at new n ≡ without_at old n
 same_less n old new same =
     ap (over new) same.others
-    ∙ ap (λ (t : DeclaredTopology). declared_network t (remove old.streams n) new.flows) same.topology
-    ∙ ap (declared_network old.topology (remove old.streams n)) same.flows
+    ∙ ap (λ (t : DeclaredTopology). network_within t new.most_ports (remove old.streams n) new.flows) same.topology
+    ∙ ap (λ (most : ℕ). network_within old.topology most (remove old.streams n) new.flows) same.most_ports
+    ∙ ap (network_within old.topology old.most_ports (remove old.streams n)) same.flows
 
 -- without the last stream, the network is what it was
 pub without_last : (network : DeclaredNetwork) (stream : DeclaredStream)

@@ -33,7 +33,7 @@ use Rattle.ats_admission.proofs.Judgements.{judged_err, judged_ok}
 -- a stream came in: nothing stands against its entry, and it is the last, with this number
 pub record IsIn (network : DeclaredNetwork) (stream : DeclaredStream) (n : ℕ) (between : DeclaredNetwork) : Type 0 where
   pub certified : IsCertified network
-  pub may : MayEnter network.topology stream
+  pub may : MayEnter network stream
   pub free : entry_fault network stream ≡ None
   pub number : n ≡ length network.streams
   pub is : between ≡ with_stream network stream
@@ -149,7 +149,7 @@ given_certified network stream n between new class sum in' given is =
     classed_in network stream n between class in' in
     subst (λ (t : DeclaredNetwork). IsCertified t) (sym (is ∙ at))
     (admitted_keeps network (with_class stream class) in'.certified
-    (enters_with network.topology stream class in'.may given.is_class) in'.free
+    (enters_with network stream class in'.may given.is_class) in'.free
     (ap reason_of (sym at) ∙ given.free)).certified
 
 -- what is answered without one

@@ -35,6 +35,7 @@ pub record IsGiven (network : DeclaredNetwork) (n class sum : ℕ) : Type 0 wher
 -- two networks are the same but for the classes of the stream with this number
 pub record AreSameBut (n : ℕ) (old new : DeclaredNetwork) : Type 0 where
   pub topology : new.topology ≡ old.topology
+  pub most_ports : new.most_ports ≡ old.most_ports
   pub flows : new.flows ≡ old.flows
   pub many : length new.streams ≡ length old.streams
   pub names : stream_names new.streams ≡ stream_names old.streams

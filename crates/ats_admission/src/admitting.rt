@@ -29,7 +29,7 @@ pub(crate) fn admit_stream(
     stream: Stream,
 ) -> Result<u128, Failure<Denied>>
     requires session { IsSession network.old kept.old }
-    requires enters { MayEnter network.old.topology stream }
+    requires enters { MayEnter network.old stream }
     ensures answer { Gives result (admit network.old stream) }
     ensures ok { OnOk result (network.new ≡ with_stream network.old stream) }
     ensures err { OnErr result (network.new ≡ network.old) }
@@ -58,7 +58,7 @@ pub(crate) fn admit_with_lowest(
     stream: Stream,
 ) -> Result<(u8, u128), Failure<Denied>>
     requires session { IsSession network.old kept.old }
-    requires enters { MayEnter network.old.topology stream }
+    requires enters { MayEnter network.old stream }
     ensures answer { Gives result (admit_lowest network.old stream) }
     ensures ok { IfOk result (λ given. network.new ≡ with_stream network.old (with_class stream given.0)) }
     ensures err { OnErr result (network.new ≡ network.old) }

@@ -24,7 +24,7 @@ use ats_streams::Stream;
 ///
 /// Nothing changes. What stands against the entry, or `Failure::NoMemory` where memory runs out.
 pub(crate) fn enter(network: &mut Network, stream: Stream) -> Result<u32, Failure<Denied>>
-    requires { MayEnter network.old.topology stream }
+    requires { MayEnter network.old stream }
     ensures number { IfOk result (λ number. number ≡ length network.old.streams) }
     ensures ok { OnOk result (network.new ≡ with_stream network.old stream) }
     ensures free { OnOk result (entry_fault network.old stream ≡ None) }

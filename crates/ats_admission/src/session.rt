@@ -74,8 +74,8 @@ impl Session {
         &self.network
     }
 
-    /// Adds a stream, which has one listener, a valid path and no identity, as the last of the streams. The sum of its
-    /// least bounds, in picoseconds.
+    /// Adds a stream, which has one listener, a valid path no longer than the network's routes may be, and no identity,
+    /// as the last of the streams. The sum of its least bounds, in picoseconds.
     ///
     /// # Errors
     ///
@@ -84,7 +84,7 @@ impl Session {
     /// than 65,536; `Because` with the reason against the network with the stream added last exactly where there is
     /// one; `Failure::NoMemory` where memory runs out.
     pub fn admit(&mut self, stream: Stream) -> Result<u128, Failure<Denied>>
-        requires { MayEnter self.old.topology stream }
+        requires { MayEnter self.old stream }
         ensures answer { Gives result (admit self.old stream) }
         ensures ok { OnOk result (self.new ≡ with_stream self.old stream) }
         ensures err { OnErr result (self.new ≡ self.old) }
@@ -92,16 +92,16 @@ impl Session {
         admit_stream(&mut self.network, &mut self.kept, stream)
     }
 
-    /// Adds a stream, which has one listener, a valid path and no identity, as the last of the streams, and gives it
-    /// the first of the classes 1 to 7 at each of its ports with which it is admitted, whichever classes it has. That
-    /// class, and the sum of its least bounds, in picoseconds.
+    /// Adds a stream, which has one listener, a valid path no longer than the network's routes may be, and no identity,
+    /// as the last of the streams, and gives it the first of the classes 1 to 7 at each of its ports with which it is
+    /// admitted, whichever classes it has. That class, and the sum of its least bounds, in picoseconds.
     ///
     /// # Errors
     ///
     /// The session stays as it was. `NameTaken` and `Limit` as in `admit`; then `NoClass` with the reason for each
     /// class exactly where it is admitted with none; `Failure::NoMemory` where memory runs out.
     pub fn admit_lowest(&mut self, stream: Stream) -> Result<(u8, u128), Failure<Denied>>
-        requires { MayEnter self.old.topology stream }
+        requires { MayEnter self.old stream }
         ensures answer { Gives result (admit_lowest self.old stream) }
         ensures ok { IfOk result (λ given. self.new ≡ with_stream self.old (with_class stream given.0)) }
         ensures err { OnErr result (self.new ≡ self.old) }
@@ -128,10 +128,10 @@ impl Session {
         }
     }
 
-    /// Answers a request, whose stream, where it has one, has one listener, a valid path and no identity. `AllocError`
-    /// where memory runs out; the session then stays as it was.
+    /// Answers a request, whose stream, where it has one, has one listener, a valid path no longer than the network's
+    /// routes may be, and no identity. `AllocError` where memory runs out; the session then stays as it was.
     pub fn ask(&mut self, request: Request) -> Result<Answer, AllocError>
-        requires { MayAsk self.old.topology request }
+        requires { MayAsk self.old request }
         ensures answer { IfOk result (λ given. given ≡ answer self.old request) }
         ensures after { OnOk result (self.new ≡ after self.old request) }
         ensures err { OnErr result (self.new ≡ self.old) }
@@ -146,7 +146,7 @@ impl Session {
     // Answers a stream that asks to enter.
     #[tactic(auto, using(crate::proofs::After::after_ok, crate::proofs::After::after_err))]
     fn ask_admission(&mut self, stream: Stream) -> Result<Answer, AllocError>
-        requires { MayEnter self.old.topology stream }
+        requires { MayEnter self.old stream }
         ensures answer { IfOk result (λ given. given ≡ answer self.old (Admit stream)) }
         ensures after { OnOk result (self.new ≡ after self.old (Admit stream)) }
         ensures err { OnErr result (self.new ≡ self.old) }
@@ -162,7 +162,7 @@ impl Session {
     // Answers a stream that asks to enter with the lowest class.
     #[tactic(auto, using(crate::proofs::After::lowest_ok, crate::proofs::After::lowest_err))]
     fn ask_lowest(&mut self, stream: Stream) -> Result<Answer, AllocError>
-        requires { MayEnter self.old.topology stream }
+        requires { MayEnter self.old stream }
         ensures answer { IfOk result (λ given. given ≡ answer self.old (Lowest stream)) }
         ensures after { OnOk result (self.new ≡ after self.old (Lowest stream)) }
         ensures err { OnErr result (self.new ≡ self.old) }

@@ -16,6 +16,7 @@ use Rattle.ats_admission_law.specs.Less.{IsLessBy}
 pub added_last : (network : DeclaredNetwork) (x : DeclaredStream) → IsLessBy (with_stream network x) network x
 added_last network x = record {
   topology = refl;
+  most_ports = refl;
   flows = refl;
   streams =
       record { front = network.streams; back = []; old_is = refl; new_is = sym (append-nil network.streams) };
@@ -32,6 +33,7 @@ taken_out network name place found =
     let within : place < length streams = omega (arith, long, inside) in
     record {
       topology = refl;
+      most_ports = refl;
       flows = refl;
       streams = record {
         front = take place streams;

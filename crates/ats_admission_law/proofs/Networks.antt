@@ -10,29 +10,32 @@ use Rattle.ats_streams.specs.Stream.{DeclaredStream, IsStream}
 use Rattle.ats_streams.specs.Flow.{DeclaredFlow}
 use Rattle.ats_network.specs.Sender.{Sender, stream_sender, flow_sender}
 use Rattle.ats_network.specs.Path.{IsTree}
-use Rattle.ats_network.specs.Network.{DeclaredNetwork, declared_network, IsNetwork, Share, senders_of, names_of}
+use Rattle.ats_network.specs.Network.{DeclaredNetwork, HasShortRoutes, IsNetwork, Share, names_of, network_within}
+use Rattle.ats_network.specs.Network.{senders_of}
 use Rattle.ats_network.proofs.NameLemmas.{pairs_from_apart, apart_from_pairs}
 use Rattle.ats_admission_law.specs.Less.{IsLessBy}
 use Rattle.ats_admission_law.proofs.Lists.{all_less, pairs_less}
 
--- streams in front, streams behind and flows, over a topology
+-- streams in front, streams behind and flows, over a topology, where a route may have so many ports
 pub record Parts : Type 0 where
   pub topology : DeclaredTopology
+  pub most : ℕ
   pub front : List DeclaredStream
   pub back : List DeclaredStream
   pub flows : List DeclaredFlow
 
 -- the network of them, and that with one stream more between those in front and those behind
 abbrev pub less : Parts → DeclaredNetwork
-less p = declared_network p.topology (p.front ++ p.back) p.flows
+less p = network_within p.topology p.most (p.front ++ p.back) p.flows
 
 abbrev pub more : Parts → DeclaredStream → DeclaredNetwork
-more p x = declared_network p.topology (p.front ++ x ∷ p.back) p.flows
+more p x = network_within p.topology p.most (p.front ++ x ∷ p.back) p.flows
 
 -- two networks of which one is less by a stream are made of such parts
 abbrev pub parts_of : (old new : DeclaredNetwork) (x : DeclaredStream) → IsLessBy old new x → Parts
 parts_of old new x is = record {
   topology = old.topology;
+  most = old.most_ports;
   front = is.streams.front;
   back = is.streams.back;
   flows = old.flows;
@@ -42,13 +45,14 @@ pub by_parts : (P : DeclaredNetwork → DeclaredNetwork → Type 0) (old new : D
     (is : IsLessBy old new x) → P (more (parts_of old new x is) x) (less (parts_of old new x is)) → P old new
 by_parts P old new x is so =
     let p : Parts = parts_of old new x is in
-    let before : old ≡ more p x = ap (λ (ss : List DeclaredStream). declared_network old.topology ss old.flows)
-    is.streams.old_is in
+    let before : old ≡ more p x =
+    ap (λ (ss : List DeclaredStream). network_within old.topology old.most_ports ss old.flows) is.streams.old_is in
     let after : new ≡ less p =
-    ap (λ (t : DeclaredTopology). declared_network t new.streams new.flows) is.topology
-    ∙ ap (λ (ss : List DeclaredStream). declared_network old.topology ss new.flows) is.streams.new_is
-    ∙ ap (λ (fs : List DeclaredFlow). declared_network old.topology (is.streams.front ++ is.streams.back) fs)
-    is.flows in
+    ap (λ (t : DeclaredTopology). network_within t new.most_ports new.streams new.flows) is.topology
+    ∙ ap (λ (n : ℕ). network_within old.topology n new.streams new.flows) is.most_ports
+    ∙ ap (λ (ss : List DeclaredStream). network_within old.topology old.most_ports ss new.flows) is.streams.new_is
+    ∙ ap (λ (fs : List DeclaredFlow).
+    network_within old.topology old.most_ports (is.streams.front ++ is.streams.back) fs) is.flows in
     subst (λ (n : DeclaredNetwork). P n new) (sym before) (subst (λ (n : DeclaredNetwork). P (more p x) n)
     (sym after) so)
 
@@ -109,6 +113,9 @@ less_is p x is = record {
     sum_by-cons many x p.back,
     sum_by-append many p.front p.back,
   );
+  most_ports = is.most_ports;
+  short_streams = all_less (HasShortRoutes p.most) p.front x p.back is.short_streams;
+  short_flows = is.short_flows;
 }
   where
     many : DeclaredStream → ℕ

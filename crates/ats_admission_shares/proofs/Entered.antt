@@ -32,6 +32,7 @@ pub less_by : (network : DeclaredNetwork) (n : ℕ) → n < length network.strea
     → IsLessBy network (without_at network n) (stream_at network n)
 less_by network n within = record {
   topology = refl;
+  most_ports = refl;
   flows = refl;
   streams = record {
     front = take n network.streams;

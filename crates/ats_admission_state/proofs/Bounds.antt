@@ -152,7 +152,7 @@ ports_are (port ∷ path) (class ∷ classes) same all =
 pub route_ports : (stream : DeclaredStream) → IsStream stream → ports_along (route_of stream) ≡ stream.ports
 route_ports stream is = ports_are stream.ports stream.classes is.each_port is.classes
 
--- each route of a stream has 1 to 16 places
+-- each route of a stream has 1 to 64 places
 pub route_rules : (stream : DeclaredStream) → IsStream stream → IsRoute (route_of stream)
 route_rules stream is =
     let places : List ℕ = places_along stream.ports stream.classes in

@@ -73,7 +73,7 @@ module _ (f : ℕ → ℕ) where
   begin-map legs own (b ∷ branches) begin = (
     record {
       earlier = begin.0.earlier;
-      later = begin.0.later;
+      at_talker = begin.0.at_talker;
       within = omega (
         arith,
         begin.0.within,

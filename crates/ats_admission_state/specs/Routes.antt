@@ -1,5 +1,5 @@
 use Rattle.std.specs.Prelude.{ℕ, ◌+◌, ◌*◌, ◌/◌, ◌%◌, ◌<◌, ◌^◌, Bool, nat_lt, List, [], ◌∷◌, map, sum_by, All, unwrap_or}
-use Rattle.std.specs.Prelude.{Option, Some, None}
+use Rattle.std.specs.Prelude.{◌≤◌, Option, Some, None}
 use Rattle.std.specs.List.{list_any}
 use Rattle.std.specs.Global.{Box}
 use Rattle.ats_num.specs.declared.time.TheConstants.{PS_PER_NS}
@@ -10,6 +10,11 @@ use Rattle.ats_streams.specs.Stream.{DeclaredStream}
 use Rattle.ats_streams.specs.declared.branch.Branch.{Branch}
 use Rattle.ats_network.specs.Network.{DeclaredNetwork}
 use Rattle.ats_admission_state.specs.declared.routes.Tree.{Tree}
+use Rattle.ats_streams.specs.declared.path.TheConstants.{MAX_PORTS}
+
+-- an array of places has room for so many
+abbrev pub HasRoom : ℕ → Type 0
+HasRoom count = count ≤ MAX_PORTS
 
 -- where the bounds of a stream stand, in the order of its ports, its branches, by which these make a route to each
 -- listener, and its deadline in picoseconds
@@ -69,7 +74,7 @@ is_over bounds route way = nat_lt route.deadline (sum_by (bound_of bounds) way)
 abbrev pub is_late : Table ℕ → RouteState → Bool
 is_late bounds route = list_any (is_over bounds route) (ways_of route)
 
--- the branches cut the places into legs, and each route has 1 to 16
+-- the branches cut the places into legs, and each route has 1 to 64
 pub record IsRoute (route : RouteState) : Type 0 where
   pub branches_are : legs.AreBranches route.places route.branches
   pub paths : All IsPath (ways_of route)

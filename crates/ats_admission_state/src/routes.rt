@@ -5,12 +5,14 @@ ghost use Rattle.std.specs.Prelude.{slice_index_or, All, IfOk};
 ghost use Rattle.std.specs.List.{slice_range};
 ghost use Rattle.ats_streams.specs.Branches.{AreBranches, first_from, leg_at, legs_of, routes_of};
 ghost use Rattle.ats_streams.specs.Path.{IsPath};
+ghost use Rattle.ats_streams.specs.declared.path.TheConstants.{MAX_PORTS};
 ghost use Rattle.ats_streams.specs.Stream.{IsClass, IsStream};
 ghost use Rattle.ats_admission_state.specs.Routes.{AreBounded, IsBounded, bound_of, is_late, places_along, route_of};
 ghost use Rattle.ats_admission_state.specs.Routes.{sum_along};
 
 use ats_class_table::PortClassTable;
 use ats_num::Ps;
+use ats_streams::path::MAX_PORTS;
 use ats_streams::{Branch, Stream};
 use std::alloc::{AllocError, Global};
 use std::marker::Model;
@@ -22,7 +24,7 @@ use std::marker::Model;
 #[derive(Drop)]
 pub struct Route {
     deadline: Ps,
-    places: [u16; 16], // of a stream with one listener
+    places: [u16; MAX_PORTS], // of a stream with one listener
     count: u8,
     tree: Option<Box<Tree>>, // of a stream with several
 }
@@ -35,14 +37,14 @@ struct Tree {
 }
 
 impl Model for Route {
-    ghost use Rattle.std.specs.Prelude.{◌≤◌, take};
-    ghost use Rattle.ats_admission_state.specs.Routes.{IsRoute, RouteState, route_state};
+    ghost use Rattle.std.specs.Prelude.{take};
+    ghost use Rattle.ats_admission_state.specs.Routes.{HasRoom, IsRoute, RouteState, route_state};
 
     ghost Value = { RouteState };
 
     ghost view = { λ r. route_state (take r.count r.places) r.tree r.deadline.0 };
 
-    ghost invariant = { λ r. (r.count ≤ 16) × IsRoute (route_state (take r.count r.places) r.tree r.deadline.0) };
+    ghost invariant = { λ r. HasRoom r.count × IsRoute (route_state (take r.count r.places) r.tree r.deadline.0) };
 }
 
 impl Route {
@@ -83,7 +85,7 @@ impl Route {
     {
         Route {
             deadline: stream.deadline(),
-            places: [0; 16],
+            places: [0; MAX_PORTS],
             count: 0,
             tree: Some(tree),
         }
@@ -147,25 +149,25 @@ impl Route {
     }
 }
 
-// The ports of a stream with one listener: at most 16.
+// The ports of a stream with one listener: at most 64.
 fn path_of(stream: &Stream) -> &[u32]
     requires { stream.now.branches ≡ [] }
     ensures value { result.now ≡ stream.now.ports }
-    ensures few { length result.now ≤ 16 }
+    ensures few { length result.now ≤ MAX_PORTS }
     ensures rules { IsStream stream.now }
 {
     stream.ports()
 }
 
 // The places of the ports of a path, with the class at each; 0 behind them.
-fn places_along(path: &[u32], classes: &[u8]) -> [u16; 16]
-    requires few { length path.now ≤ 16 }
+fn places_along(path: &[u32], classes: &[u8]) -> [u16; MAX_PORTS]
+    requires few { length path.now ≤ MAX_PORTS }
     requires count { length classes.now ≡ length path.now }
     requires ports { All (λ p. p < 4096) path.now }
     requires classes { All IsClass classes.now }
     ensures { take (length path.now) result ≡ places_along path.now classes.now }
 {
-    let mut places = [0; 16];
+    let mut places = [0; MAX_PORTS];
     for (hop, port) in path.iter().enumerate() {
         places[hop] = 8 * *port as u16 + u16::from(classes[hop]);
     }
@@ -263,9 +265,9 @@ fn first_place(branches: &[Branch], leg: usize) -> usize
     branches[leg - 1].first as usize
 }
 
-// The sum of the bounds at these places, of which there are at most 16.
+// The sum of the bounds at these places, of which there are at most 64.
 fn sum_at(bounds: &PortClassTable<u128>, places: &[u16]) -> u128
-    requires few { length places.now ≤ 16 }
+    requires few { length places.now ≤ MAX_PORTS }
     requires bounded { All (IsBounded bounds.now) places.now }
     ensures value { result ≡ sum_by (bound_of bounds.now) places.now }
     ensures most { result ≤ length places.now * 10 ^ 36 }

@@ -40,13 +40,13 @@ entry_inside network stream =
 
 -- of the reason against the network with a stream that came in
 with_inside : (network : DeclaredNetwork) (stream : DeclaredStream) (reason : Reason) → IsCertified network
-    → MayEnter network.topology stream → entry_fault network stream ≡ None
+    → MayEnter network stream → entry_fault network stream ≡ None
     → reason_with network stream ≡ Some reason → ReasonInside network.topology reason
 with_inside network stream reason is may entry found =
     each_reason_is_inside (with_stream network stream) reason (entered network stream is.rules may entry) found
 
 admit_inside : (network : DeclaredNetwork) (stream : DeclaredStream) → IsCertified network
-    → MayEnter network.topology stream
+    → MayEnter network stream
     → AnswerInside network.topology (admit_answer (first_class_of stream) (admit network stream))
 admit_inside network stream is may =
     by (entry_fault network stream) refl (reason_with network stream) refl (entry_inside network stream)
@@ -61,7 +61,7 @@ admit_inside network stream is may =
 
 -- of the reasons with which a stream gets none of these classes
 lowest_inside : (network : DeclaredNetwork) (stream : DeclaredStream) (classes : List ℕ) → IsCertified network
-    → MayEnter network.topology stream → entry_fault network stream ≡ None → All IsClass classes
+    → MayEnter network stream → entry_fault network stream ≡ None → All IsClass classes
     → IfErr (lowest_of network stream classes) (All (ReasonInside network.topology))
 lowest_inside network stream [] is may entry all = All-nil (ReasonInside network.topology)
 lowest_inside network stream (class ∷ classes) is may entry all =
@@ -76,10 +76,10 @@ lowest_inside network stream (class ∷ classes) is may entry all =
     by (Some reason) e (Err reasons) rest =
         All-cons (ReasonInside network.topology) reason reasons
         (with_inside network (with_class stream class) reason is
-        (enters_with network.topology stream class may (All-head IsClass class classes all)) entry e) rest
+        (enters_with network stream class may (All-head IsClass class classes all)) entry e) rest
 
 least_inside : (network : DeclaredNetwork) (stream : DeclaredStream) → IsCertified network
-    → MayEnter network.topology stream → AnswerInside network.topology (lowest_answer (admit_lowest network stream))
+    → MayEnter network stream → AnswerInside network.topology (lowest_answer (admit_lowest network stream))
 least_inside network stream is may =
     by (entry_fault network stream) refl (lowest_of network stream stream_classes) refl (entry_inside network stream)
   where
@@ -102,7 +102,7 @@ withdraw_inside network name = by (is_some (stream_named network.streams name))
 
 -- of the answer to a request
 pub answer_inside : (network : DeclaredNetwork) (request : Request) → IsCertified network
-    → MayAsk network.topology request → AnswerInside network.topology (answer network request)
+    → MayAsk network request → AnswerInside network.topology (answer network request)
 answer_inside network (Admit stream) is may = admit_inside network stream is may
 answer_inside network (Lowest stream) is may = least_inside network stream is may
 answer_inside network (Withdraw name) is may = withdraw_inside network name

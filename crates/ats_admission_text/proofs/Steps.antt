@@ -8,13 +8,14 @@ use Rattle.ats_network.specs.Network.{DeclaredNetwork}
 use Rattle.ats_requests.specs.Laws.{IsCertified}
 use Rattle.ats_requests.specs.Requests.{MayAsk, after, after_all, answer, answers}
 use Rattle.ats_requests.specs.declared.request.Request.{Request}
-use Rattle.ats_requests.proofs.Requests.{request_keeps}
+use Rattle.ats_requests.proofs.Requests.{may_still, request_keeps}
 use Rattle.ats_admission_text.specs.Text.{answer_text, answers_text, lines_of, name_asked}
 
--- a network that answered a request, over the same topology
+-- a network that answered a request, over the same topology and with the same greatest number of ports of a route
 pub record IsNext (network next : DeclaredNetwork) (request : Request) : Type 0 where
   pub is : next ≡ after network request
   pub topology : next.topology ≡ network.topology
+  pub most_ports : next.most_ports ≡ network.most_ports
 
 -- the text of the answers to the next request and to those behind it
 next_answers : (network next : DeclaredNetwork) (request : Request) (requests : List Request)
@@ -49,25 +50,31 @@ end_stays network next whole request requests rest step left so_far =
 
 -- the next request may be asked
 pub may_first : (network : DeclaredNetwork) (request : Request) (requests rest : List Request)
-    → rest ≡ request ∷ requests → All (MayAsk network.topology) rest → MayAsk network.topology request
+    → rest ≡ request ∷ requests → All (MayAsk network) rest → MayAsk network request
 may_first network request requests rest left all =
-    All-head (MayAsk network.topology) request requests
-    (subst (λ (rs : List Request). All (MayAsk network.topology) rs) left all)
+    All-head (MayAsk network) request requests
+    (subst (λ (rs : List Request). All (MayAsk network) rs) left all)
 
 -- so may those behind it, afterwards
 pub may_rest : (network next : DeclaredNetwork) (request : Request) (requests rest : List Request)
-    → IsNext network next request → rest ≡ request ∷ requests → All (MayAsk network.topology) rest
-    → All (MayAsk next.topology) requests
+    → IsNext network next request → rest ≡ request ∷ requests → All (MayAsk network) rest
+    → All (MayAsk next) requests
 may_rest network next request requests rest step left all =
-    subst (λ (t : DeclaredTopology). All (MayAsk t) requests) (sym step.topology)
-    (All-tail (MayAsk network.topology) request requests
-    (subst (λ (rs : List Request). All (MayAsk network.topology) rs) left all))
+    may_still network next requests step.topology step.most_ports
+    (All-tail (MayAsk network) request requests
+    (subst (λ (rs : List Request). All (MayAsk network) rs) left all))
 
 -- the topology stays
 pub after_topology : (network next : DeclaredNetwork) (request : Request) → IsCertified network
-    → MayAsk network.topology request → next ≡ after network request → next.topology ≡ network.topology
+    → MayAsk network request → next ≡ after network request → next.topology ≡ network.topology
 after_topology network next request is may step =
     ap (λ (n : DeclaredNetwork). n.topology) step ∙ (request_keeps network request is may).topology
+
+-- and so does the greatest number of ports of a route
+pub after_most_ports : (network next : DeclaredNetwork) (request : Request) → IsCertified network
+    → MayAsk network request → next ≡ after network request → next.most_ports ≡ network.most_ports
+after_most_ports network next request is may step =
+    ap (λ (n : DeclaredNetwork). n.most_ports) step ∙ (request_keeps network request is may).most_ports
 
 -- what holds at all events holds where a call went well
 pub on_ok : {T E : Type 0} (result : Result T E) (P : Type 0) → P → OnOk result P

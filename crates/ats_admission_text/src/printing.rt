@@ -23,7 +23,7 @@ pub fn answered(
     session: &mut Session,
     requests: Vec<Request>,
 ) -> Result<Vec<u8>, AllocError>
-    requires { All (MayAsk session.old.topology) requests.items }
+    requires { All (MayAsk session.old) requests.items }
     ensures text { IfOk result (λ text. text.items ≡ admission_text session.old requests.items) }
     ensures after { OnOk result (session.new ≡ after_all session.old requests.items) }
 {
@@ -40,7 +40,7 @@ fn ask_all(
     session: &mut Session,
     requests: Vec<Request>,
 ) -> Result<(), AllocError>
-    requires { All (MayAsk session.old.topology) requests.items }
+    requires { All (MayAsk session.old) requests.items }
     ensures text { OnOk result (out.new.items ≡ out.old.items ++ answers_text session.old requests.items) }
     ensures after { OnOk result (session.new ≡ after_all session.old requests.items) }
 {
@@ -52,11 +52,12 @@ fn ask_all(
 
 // Asks a request, and writes the answer.
 fn ask_one(out: &mut Vec<u8>, session: &mut Session, request: Request) -> Result<(), AllocError>
-    requires { MayAsk session.old.topology request }
+    requires { MayAsk session.old request }
     ensures text { OnOk result (out.new.items
         ≡ out.old.items ++ answer_text session.old.topology (name_asked request) (answer session.old request)) }
     ensures after { OnOk result (session.new ≡ after session.old request) }
     ensures topology { OnOk result (session.new.topology ≡ session.old.topology) }
+    ensures most_ports { OnOk result (session.new.most_ports ≡ session.old.most_ports) }
 {
     let _before = session.network(); // for what a session keeps
     let name = name_asked(&request);

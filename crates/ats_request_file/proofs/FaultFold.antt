@@ -6,7 +6,7 @@ use Rattle.std.proofs.lemmas.List.Elements.{filter-append}
 use Rattle.std.proofs.lemmas.Bool.{false≢true}
 use Rattle.ats_io.specs.Text.{lines_of, words_of}
 use Rattle.ats_num.specs.Failure.{◌>>=◌}
-use Rattle.ats_topology.specs.Topology.{DeclaredTopology}
+use Rattle.ats_network.specs.Network.{DeclaredNetwork}
 use Rattle.ats_requests.specs.declared.request.Request.{Request}
 use Rattle.ats_words.specs.Words.{is_skipped}
 use Rattle.ats_request_file.specs.Reading.{asked_in, with_line, requests_from, requests_of}
@@ -30,27 +30,27 @@ asking_more before line b e =
         p
 
 -- what is known of a line by its answer
-abbrev Told : DeclaredTopology → List (List ℕ) → List ℕ → Result (List Request) RequestFault → Type 0
-Told topology before line (Ok more) = (length more ≡ length (asking (before ++ line ∷ [])))
-    × ((fault : RequestFault) → HasFault topology before line fault → ⊥)
-Told topology before line (Err fault) = HasFault topology before line fault
+abbrev Told : DeclaredNetwork → List (List ℕ) → List ℕ → Result (List Request) RequestFault → Type 0
+Told network before line (Ok more) = (length more ≡ length (asking (before ++ line ∷ [])))
+    × ((fault : RequestFault) → HasFault network before line fault → ⊥)
+Told network before line (Err fault) = HasFault network before line fault
 
-told : (topology : DeclaredTopology) (requests : List Request) (before : List (List ℕ)) (line : List ℕ)
+told : (network : DeclaredNetwork) (requests : List Request) (before : List (List ℕ)) (line : List ℕ)
     → length requests ≡ length (asking before)
-    → Told topology before line (with_line topology requests (length before + 1) line)
-told topology requests before line many =
-    by (is_skipped line) refl (asked_in topology (length requests) (length before + 1) (words_of line)) refl
+    → Told network before line (with_line network requests (length before + 1) line)
+told network requests before line many =
+    by (is_skipped line) refl (asked_in network (length requests) (length before + 1) (words_of line)) refl
   where
     by : (b : Bool) → is_skipped line ≡ b → (r : Result Request RequestFault)
-        → asked_in topology (length requests) (length before + 1) (words_of line) ≡ r
-        → Told topology before line (cond b (Ok requests) (r >>= λ request. Ok (requests ++ request ∷ [])))
+        → asked_in network (length requests) (length before + 1) (words_of line) ≡ r
+        → Told network before line (cond b (Ok requests) (r >>= λ request. Ok (requests ++ request ∷ [])))
     by true e r f = (
       let more = asking_more before line true e in omega (arith, many, more),
       λ fault h. absurd (false≢true (sym h.counts ∙ e)),
     )
     by false e (Err fault) f = record {
       counts = e;
-      found = ap (λ (m : ℕ). asked_in topology m (length before + 1) (words_of line)) (sym many) ∙ f;
+      found = ap (λ (m : ℕ). asked_in network m (length before + 1) (words_of line)) (sym many) ∙ f;
     }
     by false e (Ok request) f = (
       let more = asking_more before line false e in
@@ -58,7 +58,7 @@ told topology requests before line many =
           omega (arith, many, more, long),
       λ fault h. (
           let clash : Ok request ≡ Err fault =
-          sym f ∙ ap (λ (m : ℕ). asked_in topology m (length before + 1) (words_of line)) many ∙ h.found in cc),
+          sym f ∙ ap (λ (m : ℕ). asked_in network m (length before + 1) (words_of line)) many ∙ h.found in cc),
     )
 
 -- a list without lines has none at fault
@@ -84,13 +84,13 @@ in_more (y ∷ b) l a (x ∷ xs) line e =
       | inr h ↦ (let p = h.cut in inr (record { after = h.after; cut = cc }))
     ]
 
-faultless_more : (topology : DeclaredTopology) (before : List (List ℕ)) (line : List ℕ) → AreFaultless topology before
-    → ((fault : RequestFault) → HasFault topology before line fault → ⊥)
-    → AreFaultless topology (before ++ line ∷ [])
-faultless_more topology before line h sound = λ b l a fault e found.
+faultless_more : (network : DeclaredNetwork) (before : List (List ℕ)) (line : List ℕ) → AreFaultless network before
+    → ((fault : RequestFault) → HasFault network before line fault → ⊥)
+    → AreFaultless network (before ++ line ∷ [])
+faultless_more network before line h sound = λ b l a fault e found.
     elim (in_more b l a before line e) [
-      | inl p ↦ sound fault (subst (λ (ls : List (List ℕ)). HasFault topology ls line fault) p.0
-          (subst (λ (x : List ℕ). HasFault topology b x fault) p.1 found))
+      | inl p ↦ sound fault (subst (λ (ls : List (List ℕ)). HasFault network ls line fault) p.0
+          (subst (λ (x : List ℕ). HasFault network b x fault) p.1 found))
       | inr p ↦ h b l p.after fault p.cut found
     ]
 
@@ -98,19 +98,19 @@ one_more : (before : List (List ℕ)) (line : List ℕ) → length (before ++ li
 one_more before line = ap (λ (k : ℕ). k + 1) (length-append before (line ∷ []))
 
 -- what is known where all lines are answered
-abbrev Outcome : DeclaredTopology → List (List ℕ) → Result (List Request) RequestFault → Type 0
-Outcome topology lines (Ok requests) = AreRead topology lines requests
-Outcome topology lines (Err fault) = IsFirstFault topology lines fault
+abbrev Outcome : DeclaredNetwork → List (List ℕ) → Result (List Request) RequestFault → Type 0
+Outcome network lines (Ok requests) = AreRead network lines requests
+Outcome network lines (Err fault) = IsFirstFault network lines fault
 
 -- the answer on a line, and then on those behind it
-answered : (topology : DeclaredTopology) (before : List (List ℕ)) (line : List ℕ) (lines : List (List ℕ))
-    (r : Result (List Request) RequestFault) → AreFaultless topology before → Told topology before line r
+answered : (network : DeclaredNetwork) (before : List (List ℕ)) (line : List ℕ) (lines : List (List ℕ))
+    (r : Result (List Request) RequestFault) → AreFaultless network before → Told network before line r
     → ((more : List Request) → length more ≡ length (asking (before ++ line ∷ []))
-    → AreFaultless topology (before ++ line ∷ []) → Outcome topology ((before ++ line ∷ []) ++ lines)
-    (requests_from topology more (length (before ++ line ∷ []) + 1) lines))
-    → Outcome topology (before ++ line ∷ lines)
-    (r >>= λ more. requests_from topology more ((length before + 1) + 1) lines)
-answered topology before line lines (Err fault) faultless known next = record {
+    → AreFaultless network (before ++ line ∷ []) → Outcome network ((before ++ line ∷ []) ++ lines)
+    (requests_from network more (length (before ++ line ∷ []) + 1) lines))
+    → Outcome network (before ++ line ∷ lines)
+    (r >>= λ more. requests_from network more ((length before + 1) + 1) lines)
+answered network before line lines (Err fault) faultless known next = record {
   before = before;
   line = line;
   after = lines;
@@ -118,81 +118,81 @@ answered topology before line lines (Err fault) faultless known next = record {
   faultless = faultless;
   found = known;
 }
-answered topology before line lines (Ok more) faultless known next =
-    subst (λ (n : ℕ). Outcome topology (before ++ line ∷ lines) (requests_from topology more n lines))
+answered network before line lines (Ok more) faultless known next =
+    subst (λ (n : ℕ). Outcome network (before ++ line ∷ lines) (requests_from network more n lines))
     (one_more before line)
-    (subst (λ (ls : List (List ℕ)). Outcome topology ls
-    (requests_from topology more (length (before ++ line ∷ []) + 1) lines))
+    (subst (λ (ls : List (List ℕ)). Outcome network ls
+    (requests_from network more (length (before ++ line ∷ []) + 1) lines))
     (append_assoc before (line ∷ []) lines)
-    (next more known.0 (faultless_more topology before line faultless known.1)))
+    (next more known.0 (faultless_more network before line faultless known.1)))
 
-outcome_from : (topology : DeclaredTopology) (requests : List Request) (before lines : List (List ℕ))
-    → length requests ≡ length (asking before) → AreFaultless topology before
-    → Outcome topology (before ++ lines) (requests_from topology requests (length before + 1) lines)
-outcome_from topology requests before [] many faultless =
-    subst (λ (ls : List (List ℕ)). AreRead topology ls requests) (sym (append-nil before))
+outcome_from : (network : DeclaredNetwork) (requests : List Request) (before lines : List (List ℕ))
+    → length requests ≡ length (asking before) → AreFaultless network before
+    → Outcome network (before ++ lines) (requests_from network requests (length before + 1) lines)
+outcome_from network requests before [] many faultless =
+    subst (λ (ls : List (List ℕ)). AreRead network ls requests) (sym (append-nil before))
     (record { faultless = faultless; many = many })
-outcome_from topology requests before (line ∷ lines) many faultless =
-    answered topology before line lines (with_line topology requests (length before + 1) line) faultless
-    (told topology requests before line many)
-    (λ more same f. outcome_from topology more (before ++ line ∷ []) lines same f)
+outcome_from network requests before (line ∷ lines) many faultless =
+    answered network before line lines (with_line network requests (length before + 1) line) faultless
+    (told network requests before line many)
+    (λ more same f. outcome_from network more (before ++ line ∷ []) lines same f)
 
-outcome : (topology : DeclaredTopology) (text : List ℕ)
-    → Outcome topology (lines_of text) (requests_of topology text)
-outcome topology text =
-    outcome_from topology [] [] (lines_of text) refl (λ before line after fault e h. not_nothing before line after e)
+outcome : (network : DeclaredNetwork) (text : List ℕ)
+    → Outcome network (lines_of text) (requests_of network text)
+outcome network text =
+    outcome_from network [] [] (lines_of text) refl (λ before line after fault e h. not_nothing before line after e)
 
-pub request_is_read : (topology : DeclaredTopology) (text : List ℕ) (requests : List Request)
-    → requests_of topology text ≡ Ok requests → AreRead topology (lines_of text) requests
-request_is_read topology text requests e =
-    subst (λ (r : Result (List Request) RequestFault). Outcome topology (lines_of text) r) e (outcome topology text)
+pub request_is_read : (network : DeclaredNetwork) (text : List ℕ) (requests : List Request)
+    → requests_of network text ≡ Ok requests → AreRead network (lines_of text) requests
+request_is_read network text requests e =
+    subst (λ (r : Result (List Request) RequestFault). Outcome network (lines_of text) r) e (outcome network text)
 
-pub fault_is_first : (topology : DeclaredTopology) (text : List ℕ) (fault : RequestFault)
-    → requests_of topology text ≡ Err fault → IsFirstFault topology (lines_of text) fault
-fault_is_first topology text fault e =
-    subst (λ (r : Result (List Request) RequestFault). Outcome topology (lines_of text) r) e (outcome topology text)
+pub fault_is_first : (network : DeclaredNetwork) (text : List ℕ) (fault : RequestFault)
+    → requests_of network text ≡ Err fault → IsFirstFault network (lines_of text) fault
+fault_is_first network text fault e =
+    subst (λ (r : Result (List Request) RequestFault). Outcome network (lines_of text) r) e (outcome network text)
 
 -- the fault of a line is answered
-at_fault : (topology : DeclaredTopology) (requests : List Request) (before : List (List ℕ)) (line : List ℕ)
-    (fault : RequestFault) → length requests ≡ length (asking before) → HasFault topology before line fault
-    → with_line topology requests (length before + 1) line ≡ Err fault
-at_fault topology requests before line fault many h =
+at_fault : (network : DeclaredNetwork) (requests : List Request) (before : List (List ℕ)) (line : List ℕ)
+    (fault : RequestFault) → length requests ≡ length (asking before) → HasFault network before line fault
+    → with_line network requests (length before + 1) line ≡ Err fault
+at_fault network requests before line fault many h =
     ap (λ (b : Bool). let r : Result (List Request) RequestFault = cond b (Ok requests)
-    (asked_in topology (length requests) (length before + 1) (words_of line)
+    (asked_in network (length requests) (length before + 1) (words_of line)
     >>= λ request. Ok (requests ++ request ∷ [])) in r) h.counts
-    ∙ ap (λ (m : ℕ). asked_in topology m (length before + 1) (words_of line)
+    ∙ ap (λ (m : ℕ). asked_in network m (length before + 1) (words_of line)
     >>= λ request. Ok (requests ++ request ∷ [])) many
     ∙ ap (λ (r : Result Request RequestFault). r >>= λ request. Ok (requests ++ request ∷ [])) h.found
 
-passed : (topology : DeclaredTopology) (before : List (List ℕ)) (line : List ℕ) (lines : List (List ℕ))
+passed : (network : DeclaredNetwork) (before : List (List ℕ)) (line : List ℕ) (lines : List (List ℕ))
     (fault : RequestFault) (r : Result (List Request) RequestFault)
-    → ((f : RequestFault) → HasFault topology before line f → ⊥) → Told topology before line r
+    → ((f : RequestFault) → HasFault network before line f → ⊥) → Told network before line r
     → ((more : List Request) → length more ≡ length (asking (before ++ line ∷ []))
-    → requests_from topology more (length (before ++ line ∷ []) + 1) lines ≡ Err fault)
-    → (r >>= λ more. requests_from topology more ((length before + 1) + 1) lines) ≡ Err fault
-passed topology before line lines fault (Err f) sound known next = absurd (sound f known)
-passed topology before line lines fault (Ok more) sound known next =
-    ap (λ (n : ℕ). requests_from topology more n lines) (sym (one_more before line)) ∙ next more known.0
+    → requests_from network more (length (before ++ line ∷ []) + 1) lines ≡ Err fault)
+    → (r >>= λ more. requests_from network more ((length before + 1) + 1) lines) ≡ Err fault
+passed network before line lines fault (Err f) sound known next = absurd (sound f known)
+passed network before line lines fault (Ok more) sound known next =
+    ap (λ (n : ℕ). requests_from network more n lines) (sym (one_more before line)) ∙ next more known.0
 
-first_answered : (topology : DeclaredTopology) (requests : List Request) (before lines : List (List ℕ)) (line : List ℕ)
+first_answered : (network : DeclaredNetwork) (requests : List Request) (before lines : List (List ℕ)) (line : List ℕ)
     (after : List (List ℕ)) (fault : RequestFault) → length requests ≡ length (asking before)
-    → AreFaultless topology (before ++ lines) → HasFault topology (before ++ lines) line fault
-    → requests_from topology requests (length before + 1) (lines ++ line ∷ after) ≡ Err fault
-first_answered topology requests before [] line after fault many faultless found =
-    let here : HasFault topology before line fault =
-    subst (λ (ls : List (List ℕ)). HasFault topology ls line fault) (append-nil before) found in
+    → AreFaultless network (before ++ lines) → HasFault network (before ++ lines) line fault
+    → requests_from network requests (length before + 1) (lines ++ line ∷ after) ≡ Err fault
+first_answered network requests before [] line after fault many faultless found =
+    let here : HasFault network before line fault =
+    subst (λ (ls : List (List ℕ)). HasFault network ls line fault) (append-nil before) found in
     ap (λ (r : Result (List Request) RequestFault).
-    r >>= λ more. requests_from topology more ((length before + 1) + 1) after)
-    (at_fault topology requests before line fault many here)
-first_answered topology requests before (l ∷ lines) line after fault many faultless found =
-    passed topology before l (lines ++ line ∷ after) fault (with_line topology requests (length before + 1) l)
-    (λ f. faultless before l lines f refl) (told topology requests before l many)
-    (λ more same. first_answered topology more (before ++ l ∷ []) lines line after fault same
-    (subst (λ (ls : List (List ℕ)). AreFaultless topology ls) (sym (append_assoc before (l ∷ []) lines)) faultless)
-    (subst (λ (ls : List (List ℕ)). HasFault topology ls line fault) (sym (append_assoc before (l ∷ []) lines)) found))
+    r >>= λ more. requests_from network more ((length before + 1) + 1) after)
+    (at_fault network requests before line fault many here)
+first_answered network requests before (l ∷ lines) line after fault many faultless found =
+    passed network before l (lines ++ line ∷ after) fault (with_line network requests (length before + 1) l)
+    (λ f. faultless before l lines f refl) (told network requests before l many)
+    (λ more same. first_answered network more (before ++ l ∷ []) lines line after fault same
+    (subst (λ (ls : List (List ℕ)). AreFaultless network ls) (sym (append_assoc before (l ∷ []) lines)) faultless)
+    (subst (λ (ls : List (List ℕ)). HasFault network ls line fault) (sym (append_assoc before (l ∷ []) lines)) found))
 
-pub first_is_answered : (topology : DeclaredTopology) (text : List ℕ) (fault : RequestFault)
-    → IsFirstFault topology (lines_of text) fault → requests_of topology text ≡ Err fault
-first_is_answered topology text fault h =
-    ap (λ (ls : List (List ℕ)). requests_from topology [] 1 ls) (sym h.cut)
-    ∙ first_answered topology [] [] h.before h.line h.after fault refl h.faultless h.found
+pub first_is_answered : (network : DeclaredNetwork) (text : List ℕ) (fault : RequestFault)
+    → IsFirstFault network (lines_of text) fault → requests_of network text ≡ Err fault
+first_is_answered network text fault h =
+    ap (λ (ls : List (List ℕ)). requests_from network [] 1 ls) (sym h.cut)
+    ∙ first_answered network [] [] h.before h.line h.after fault refl h.faultless h.found

@@ -17,7 +17,7 @@ use Rattle.ats_network.specs.Shortest.{shortest_of}
 use Rattle.ats_network.proofs.PathLemmas.{nodes_to, away}
 use Rattle.ats_network.proofs.RouteLemmas.{shortest_least}
 
--- The least walk from one station to another one is a valid path.
+-- The least walk from one node to another one is a valid path.
 
 -- a walk of fewer than n ports
 record Shorter (ports : List Port) (a b n : ℕ) : Type 0 where
@@ -64,17 +64,15 @@ fewest_apart ports a (p ∷ walk) b is fewest =
     by false e apart =
         AllPairs-cons (λ m n. m ≢ n) a (nodes_to ports (p ∷ walk)) (away ports a (p ∷ walk) e) apart
 
--- the least walk from one station to another one is a valid path
+-- the least walk from one node to another one is a valid path
 pub least_valid : (topology : DeclaredTopology) (a b : ℕ) (walk : List ℕ) → IsLeastWalk topology.ports a b walk
-    → IsStationAt topology a → IsStationAt topology b → a ≢ b → IsValidPath topology walk
-least_valid topology a b [] least begins ends differ = absurd (differ least.walk_is)
-least_valid topology a b (p ∷ walk) least begins ends differ = record {
+    → a ≢ b → IsValidPath topology walk
+least_valid topology a b [] least differ = absurd (differ least.walk_is)
+least_valid topology a b (p ∷ walk) least differ = record {
   talker = a;
   listener = b;
+  some = omega arith;
   walk = least.walk_is;
-  begins = begins;
-  ends = ends;
-  differ = differ;
   apart =
       subst (λ (n : ℕ). AllPairs (λ m k. m ≢ k) (n ∷ nodes_to topology.ports (p ∷ walk))) (sym least.walk_is.0.from)
       (fewest_apart topology.ports a (p ∷ walk) b least.walk_is least.least);
@@ -88,7 +86,7 @@ pub found_valid : (topology : DeclaredTopology) (a b : ℕ) (found : Option (Vec
 found_valid topology a b None is begins ends differ same = tt
 found_valid topology a b (Some walk) is begins ends differ same =
     least_valid topology a b walk.items ((shortest_least topology a b is begins.within ends.within).least walk.items
-    (sym same)) begins ends differ
+    (sym same)) differ
 
 -- and the one that a call answers
 pub answer_valid : (topology : DeclaredTopology) (a b : ℕ) (answer : Result (Option (Vec ℕ)) AllocError)

@@ -1,6 +1,6 @@
 use Rattle.std.specs.Prelude.{◌≡◌, ◌↔◌, ℕ, ◌+◌, false, not, List, ◌∷◌, ◌++◌, length, filter, Ok, Err}
 use Rattle.ats_io.specs.Text.{lines_of, words_of}
-use Rattle.ats_topology.specs.Topology.{DeclaredTopology}
+use Rattle.ats_network.specs.Network.{DeclaredNetwork}
 use Rattle.ats_requests.specs.declared.request.Request.{Request}
 use Rattle.ats_words.specs.Words.{is_skipped}
 use Rattle.ats_request_file.specs.Reading.{asked_in, requests_of}
@@ -12,36 +12,36 @@ asking lines = filter (λ line. not (is_skipped line)) lines
 
 -- the line behind these lines asks something, and its words have this fault, as the words of a line with its number
 -- behind so many that ask something
-pub record HasFault (topology : DeclaredTopology) (before : List (List ℕ)) (line : List ℕ) (fault : RequestFault)
+pub record HasFault (network : DeclaredNetwork) (before : List (List ℕ)) (line : List ℕ) (fault : RequestFault)
     : Type 0 where
   pub counts : is_skipped line ≡ false
-  pub found : asked_in topology (length (asking before)) (length before + 1) (words_of line) ≡ Err fault
+  pub found : asked_in network (length (asking before)) (length before + 1) (words_of line) ≡ Err fault
 
 -- no line has a fault behind those before it
-abbrev pub AreFaultless : DeclaredTopology → List (List ℕ) → Type 0
-AreFaultless topology lines = (before : List (List ℕ)) (line : List ℕ) (after : List (List ℕ)) (fault : RequestFault)
-    → before ++ line ∷ after ≡ lines → HasFault topology before line fault → ⊥
+abbrev pub AreFaultless : DeclaredNetwork → List (List ℕ) → Type 0
+AreFaultless network lines = (before : List (List ℕ)) (line : List ℕ) (after : List (List ℕ)) (fault : RequestFault)
+    → before ++ line ∷ after ≡ lines → HasFault network before line fault → ⊥
 
 -- a line has this fault, and no line before it has any
-pub record IsFirstFault (topology : DeclaredTopology) (lines : List (List ℕ)) (fault : RequestFault) : Type 0 where
+pub record IsFirstFault (network : DeclaredNetwork) (lines : List (List ℕ)) (fault : RequestFault) : Type 0 where
   pub before : List (List ℕ)
   pub line : List ℕ
   pub after : List (List ℕ)
   pub cut : before ++ line ∷ after ≡ lines
-  pub faultless : AreFaultless topology before
-  pub found : HasFault topology before line fault
+  pub faultless : AreFaultless network before
+  pub found : HasFault network before line fault
 
 -- no line is at fault, and there is a request for each line that asks something
-pub record AreRead (topology : DeclaredTopology) (lines : List (List ℕ)) (requests : List Request) : Type 0 where
-  pub faultless : AreFaultless topology lines
+pub record AreRead (network : DeclaredNetwork) (lines : List (List ℕ)) (requests : List Request) : Type 0 where
+  pub faultless : AreFaultless network lines
   pub many : length requests ≡ length (asking lines)
 
 -- a text gives a fault exactly where this is its first one
 abbrev pub EachFaultIsTheFirst : Type 0
-EachFaultIsTheFirst = (topology : DeclaredTopology) (text : List ℕ) (fault : RequestFault)
-    → requests_of topology text ≡ Err fault ↔ IsFirstFault topology (lines_of text) fault
+EachFaultIsTheFirst = (network : DeclaredNetwork) (text : List ℕ) (fault : RequestFault)
+    → requests_of network text ≡ Err fault ↔ IsFirstFault network (lines_of text) fault
 
 -- a text that makes requests has no fault
 abbrev pub EachRequestIsRead : Type 0
-EachRequestIsRead = (topology : DeclaredTopology) (text : List ℕ) (requests : List Request)
-    → requests_of topology text ≡ Ok requests → AreRead topology (lines_of text) requests
+EachRequestIsRead = (network : DeclaredNetwork) (text : List ℕ) (requests : List Request)
+    → requests_of network text ≡ Ok requests → AreRead network (lines_of text) requests

@@ -4,7 +4,8 @@ use Rattle.std.specs.Str.{bytes_eq}
 use Rattle.ats_num.specs.Failure.{◌>>=◌, or_fault, ok_where, unless}
 use Rattle.ats_io.specs.Text.{lines_of, words_of}
 use Rattle.ats_topology.specs.Topology.{DeclaredTopology, station_named}
-use Rattle.ats_streams.specs.Stream.{DeclaredStream, declared_stream, classes_for, stream_fault}
+use Rattle.ats_streams.specs.Stream.{DeclaredStream, declared_stream, classes_for, stream_fault_within}
+use Rattle.ats_network.specs.Network.{DeclaredNetwork}
 use Rattle.ats_network.specs.Shortest.{shortest_of}
 use Rattle.ats_requests.specs.declared.request.Request.{Request}
 use Rattle.ats_requests.specs.declared.request.Request.TheVariants.{Admit, Lowest, Withdraw}
@@ -36,9 +37,10 @@ stream_over path said =
     declared_stream said.name path (classes_for (length path) (made_class said ∷ [])) said.rate_bps said.burst_bits
     said.min_octets said.max_octets said.deadline_ns None
 
--- that stream, or the first rule that it breaks
-abbrev pub stream_made : ℕ → AdmitWords → DeclaredStream → Result DeclaredStream RequestFault
-stream_made n said stream = unless (faults.Stream n) (stream_fault (made_class said ∷ []) stream) stream
+-- that stream, or the first rule that it breaks, where a route may have so many ports
+abbrev pub stream_made : ℕ → ℕ → AdmitWords → DeclaredStream → Result DeclaredStream RequestFault
+stream_made most n said stream =
+    unless (faults.Stream n) (stream_fault_within most (made_class said ∷ []) stream) stream
 
 -- what is asked with a stream, with a class or with the class left open
 abbrev pub asked : Option ℕ → DeclaredStream → Request
@@ -46,11 +48,11 @@ asked None stream = Lowest stream
 asked (Some class) stream = Admit stream
 
 -- an `admit` line: its words are judged first, then the ends, the path, and the rules of a stream
-abbrev pub admit_line : DeclaredTopology → ℕ → List (List ℕ) → Result Request RequestFault
-admit_line topology n words = do
+abbrev pub admit_line : DeclaredNetwork → ℕ → List (List ℕ) → Result Request RequestFault
+admit_line network n words = do
   said ← admit_in n words
-  path ← path_in topology n words
-  stream ← stream_made n said (stream_over path said)
+  path ← path_in network.topology n words
+  stream ← stream_made network.most_ports n said (stream_over path said)
   Ok (asked said.class stream)
 
 -- a line `withdraw NAME`
@@ -60,30 +62,30 @@ withdraw_line n words = do
   ok_where (length words == 2) (BadLine n) (Withdraw name)
 
 -- what the words of a line ask
-abbrev pub request_in : DeclaredTopology → ℕ → List (List ℕ) → Result Request RequestFault
-request_in topology n words =
-    if bytes_eq (word words 0) (codes "admit") then admit_line topology n words
+abbrev pub request_in : DeclaredNetwork → ℕ → List (List ℕ) → Result Request RequestFault
+request_in network n words =
+    if bytes_eq (word words 0) (codes "admit") then admit_line network n words
     else if bytes_eq (word words 0) (codes "withdraw") then withdraw_line n words
     else Err (BadLine n)
 
 -- what the words of a line ask after so many requests: at most 10,000 are made
-abbrev pub asked_in : DeclaredTopology → ℕ → ℕ → List (List ℕ) → Result Request RequestFault
-asked_in topology before n words = do
-  request ← request_in topology n words
+abbrev pub asked_in : DeclaredNetwork → ℕ → ℕ → List (List ℕ) → Result Request RequestFault
+asked_in network before n words = do
+  request ← request_in network n words
   ok_where (nat_lt before 10000) (Limit n) request
 
 -- the requests with what the line with number n asks after them, if it asks anything
-abbrev pub with_line : DeclaredTopology → List Request → ℕ → List ℕ → Result (List Request) RequestFault
-with_line topology requests n line =
+abbrev pub with_line : DeclaredNetwork → List Request → ℕ → List ℕ → Result (List Request) RequestFault
+with_line network requests n line =
     if is_skipped line then Ok requests
-    else asked_in topology (length requests) n (words_of line) >>= λ request. Ok (requests ++ request ∷ [])
+    else asked_in network (length requests) n (words_of line) >>= λ request. Ok (requests ++ request ∷ [])
 
 -- these requests and those of these lines, the first of which has number n; or the first fault
-abbrev pub requests_from : DeclaredTopology → List Request → ℕ → List (List ℕ) → Result (List Request) RequestFault
-requests_from topology requests n [] = Ok requests
-requests_from topology requests n (line ∷ lines) =
-    with_line topology requests n line >>= λ more. requests_from topology more (n + 1) lines
+abbrev pub requests_from : DeclaredNetwork → List Request → ℕ → List (List ℕ) → Result (List Request) RequestFault
+requests_from network requests n [] = Ok requests
+requests_from network requests n (line ∷ lines) =
+    with_line network requests n line >>= λ more. requests_from network more (n + 1) lines
 
--- the requests that a text makes over a topology, or its first fault
-abbrev pub requests_of : DeclaredTopology → List ℕ → Result (List Request) RequestFault
-requests_of topology text = requests_from topology [] 1 (lines_of text)
+-- the requests that a text makes over a network, or its first fault
+abbrev pub requests_of : DeclaredNetwork → List ℕ → Result (List Request) RequestFault
+requests_of network text = requests_from network [] 1 (lines_of text)

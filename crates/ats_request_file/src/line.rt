@@ -1,25 +1,28 @@
 //! What one line of a request file asks.
 
-ghost use Rattle.std.specs.Prelude.{◌≡◌, ◌<◌, ℕ, [], IfOk, IfSome, OnOk, None};
+ghost use Rattle.std.specs.Prelude.{◌≡◌, ◌<◌, ◌≤◌, ℕ, [], ◌∷◌, IfOk, IfSome, OnOk, None};
 ghost use Rattle.std.specs.Global.{Vec};
 ghost use Rattle.std.specs.Option.{option_map};
-ghost use Rattle.ats_num.specs.Failure.{Gives, GivesSeen};
+ghost use Rattle.ats_num.specs.Failure.{Gives, GivesSeen, unless};
 ghost use Rattle.ats_io.specs.Text.{words_of};
-ghost use Rattle.ats_streams.specs.Stream.{IsStream};
+ghost use Rattle.ats_streams.specs.Stream.{IsStream, stream_fault};
+ghost use Rattle.ats_streams.specs.declared.path.TheConstants.{MAX_PORTS};
 ghost use Rattle.ats_topology.specs.KeptWalks.{AreKeptFor};
 ghost use Rattle.ats_topology.specs.Topology.{IsStationAt};
+ghost use Rattle.ats_network.specs.Network.{HasShortRoutes};
 ghost use Rattle.ats_network.specs.Path.{IsValidPath};
 ghost use Rattle.ats_requests.specs.Requests.{MayAsk};
 ghost use Rattle.ats_request_file.specs.Words.{class_in, admit_in};
 ghost use Rattle.ats_request_file.specs.Reading.{path_between, path_in, made_class, stream_over};
+ghost use Rattle.ats_request_file.specs.declared.fault.RequestFault.TheVariants as faults;
 ghost use Rattle.ats_request_file.specs.Reading.{stream_made, admit_line, withdraw_line, request_in, asked_in};
 
 use crate::fault::RequestFault;
 use crate::words::{named, numbered};
-use ats_network::shortest_kept;
+use ats_network::{Network, shortest_kept};
 use ats_num::{Failure, Name};
 use ats_requests::Request;
-use ats_streams::Stream;
+use ats_streams::{Stream, StreamFault};
 use ats_topology::{KeptWalks, Topology};
 use ats_words::WordLine;
 use std::alloc::{AllocError, Global};
@@ -43,19 +46,19 @@ pub const MAX_REQUESTS: usize = 10_000;
 /// What line `n` asks after so many requests, or its fault.
 pub(crate) fn asked_in(
     alloc: Global,
-    topology: &Topology,
+    network: &Network,
     walks: &mut KeptWalks,
     before: usize,
     n: u32,
     line: &WordLine,
 ) -> Result<Request, Failure<RequestFault>>
-    requires kept { AreKeptFor topology.now walks.old }
-    ensures value { Gives result (asked_in topology.now before n (words_of line.now)) }
-    ensures allowed { IfOk result (MayAsk topology.now) }
+    requires kept { AreKeptFor network.now.topology walks.old }
+    ensures value { Gives result (asked_in network.now before n (words_of line.now)) }
+    ensures allowed { IfOk result (MayAsk network.now) }
     ensures room { OnOk result (before < MAX_REQUESTS) }
-    ensures kept { AreKeptFor topology.now walks.new }
+    ensures kept { AreKeptFor network.now.topology walks.new }
 {
-    let request = request_in(alloc, topology, walks, n, line)?;
+    let request = request_in(alloc, network, walks, n, line)?;
     if before >= MAX_REQUESTS {
         return Err(Failure::Fault(RequestFault::Limit(n)));
     }
@@ -64,18 +67,18 @@ pub(crate) fn asked_in(
 
 fn request_in(
     alloc: Global,
-    topology: &Topology,
+    network: &Network,
     walks: &mut KeptWalks,
     n: u32,
     line: &WordLine,
 ) -> Result<Request, Failure<RequestFault>>
-    requires kept { AreKeptFor topology.now walks.old }
-    ensures value { Gives result (request_in topology.now n (words_of line.now)) }
-    ensures allowed { IfOk result (MayAsk topology.now) }
-    ensures kept { AreKeptFor topology.now walks.new }
+    requires kept { AreKeptFor network.now.topology walks.old }
+    ensures value { Gives result (request_in network.now n (words_of line.now)) }
+    ensures allowed { IfOk result (MayAsk network.now) }
+    ensures kept { AreKeptFor network.now.topology walks.new }
 {
     if line.word(0) == b"admit".as_slice() {
-        return admit_line(alloc, topology, walks, n, line);
+        return admit_line(alloc, network, walks, n, line);
     }
     if line.word(0) == b"withdraw".as_slice() {
         return Ok(withdraw_line(n, line)?);
@@ -96,19 +99,19 @@ fn withdraw_line(n: u32, line: &WordLine) -> Result<Request, RequestFault>
 
 fn admit_line(
     alloc: Global,
-    topology: &Topology,
+    network: &Network,
     walks: &mut KeptWalks,
     n: u32,
     line: &WordLine,
 ) -> Result<Request, Failure<RequestFault>>
-    requires kept { AreKeptFor topology.now walks.old }
-    ensures value { Gives result (admit_line topology.now n (words_of line.now)) }
-    ensures allowed { IfOk result (MayAsk topology.now) }
-    ensures kept { AreKeptFor topology.now walks.new }
+    requires kept { AreKeptFor network.now.topology walks.old }
+    ensures value { Gives result (admit_line network.now n (words_of line.now)) }
+    ensures allowed { IfOk result (MayAsk network.now) }
+    ensures kept { AreKeptFor network.now.topology walks.new }
 {
     let said = admit_in(n, line)?;
-    let path = path_in(alloc, topology, walks, n, line)?;
-    let stream = stream_over(alloc, path, n, &said)?;
+    let path = path_in(alloc, network.topology(), walks, n, line)?;
+    let stream = stream_over(alloc, path, network.most_ports(), n, &said)?;
     match said.class {
         None => Ok(Request::Lowest(stream)),
         Some(_) => Ok(Request::Admit(stream)),
@@ -193,14 +196,37 @@ fn path_between(
     shortest_kept(alloc, topology, walks, from, to)
 }
 
-// The stream that an `admit` line declares over a path.
+// The stream that an `admit` line declares over a path, where a route may have so many ports.
 fn stream_over(
+    alloc: Global,
+    path: Vec<u32>,
+    most: u32,
+    n: u32,
+    said: &AdmitWords,
+) -> Result<Stream, Failure<RequestFault>>
+    requires { most ≤ MAX_PORTS }
+    ensures value { Gives result (stream_made most n said.now (stream_over path.items said.now)) }
+    ensures rules { IfOk result (λ stream. IsStream stream × (stream.ports ≡ path.items) × (stream.branches ≡ [])
+        × (stream.identity ≡ None)) }
+    ensures short { IfOk result (HasShortRoutes most) }
+{
+    let stream = stream_of(alloc, path, n, said)?;
+    if stream.has_short_routes(most) {
+        Ok(stream)
+    } else {
+        Err(Failure::Fault(RequestFault::Stream(n, StreamFault::Limit)))
+    }
+}
+
+// The same, where a route may have as many ports as that of any stream.
+fn stream_of(
     alloc: Global,
     path: Vec<u32>,
     n: u32,
     said: &AdmitWords,
 ) -> Result<Stream, Failure<RequestFault>>
-    ensures value { Gives result (stream_made n said.now (stream_over path.items said.now)) }
+    ensures value { Gives result (unless (faults.Stream n)
+        (stream_fault (made_class said.now ∷ []) (stream_over path.items said.now)) (stream_over path.items said.now)) }
     ensures rules { IfOk result (λ stream. IsStream stream × (stream.ports ≡ path.items) × (stream.branches ≡ [])
         × (stream.identity ≡ None)) }
 {

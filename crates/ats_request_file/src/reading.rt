@@ -22,12 +22,11 @@ pub fn read_requests(
     network: &Network,
 ) -> Result<Vec<Request>, Failure<RequestFault>>
     requires { length bytes.now ≤ 16777216 }
-    ensures value { GivesSeen (λ requests. requests.items) result (requests_of network.now.topology bytes.now) }
+    ensures value { GivesSeen (λ requests. requests.items) result (requests_of network.now bytes.now) }
     ensures few { IfOk result (λ requests. length requests.items ≤ MAX_REQUESTS) }
-    ensures allowed { IfOk result (λ requests. All (MayAsk network.now.topology) requests.items) }
+    ensures allowed { IfOk result (λ requests. All (MayAsk network.now) requests.items) }
 {
-    let topology = network.topology();
-    let mut walks = KeptWalks::new(alloc, topology)?;
+    let mut walks = KeptWalks::new(alloc, network.topology())?;
     let mut requests = Vec::new(alloc);
     let mut number = 1;
     let mut at = 0;
@@ -35,7 +34,7 @@ pub fn read_requests(
         let (end, next) = line_at(bytes, at);
         let line = WordLine::new(&bytes[at..end]);
         if !line.is_skipped() {
-            let request = asked_in(alloc, topology, &mut walks, requests.len(), number, &line)?;
+            let request = asked_in(alloc, network, &mut walks, requests.len(), number, &line)?;
             requests.push(request)?;
         }
         number += 1;

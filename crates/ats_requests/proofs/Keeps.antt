@@ -7,7 +7,6 @@ use Rattle.std.proofs.lemmas.List.Elements.{All-replicate}
 use Rattle.std.proofs.lemmas.List.{length-replicate}
 use Rattle.ats_facts.proofs.Options.{is_some-false, option_or-none}
 use Rattle.ats_num.specs.Places.{place_of}
-use Rattle.ats_topology.specs.Topology.{DeclaredTopology}
 use Rattle.ats_streams.specs.Stream.{DeclaredStream, IsClass, with_class}
 use Rattle.ats_network.specs.Edits.{less_at, without_named}
 use Rattle.ats_network.specs.Network.{DeclaredNetwork, IsNetwork, senders_of, names_of}
@@ -48,16 +47,16 @@ may_come_in network stream none =
 
 -- so the network with the stream is one
 pub entered : (network : DeclaredNetwork) (stream : DeclaredStream) → IsNetwork network
-    → MayEnter network.topology stream → entry_fault network stream ≡ None → IsNetwork (with_stream network stream)
+    → MayEnter network stream → entry_fault network stream ≡ None → IsNetwork (with_stream network stream)
 entered network stream is may none =
     let in' : MayComeIn network stream = may_come_in network stream none in
-    pushed_stream network stream is may.rules may.tree in'.absent
+    pushed_stream network stream is may.rules may.tree may.short in'.absent
     (ap (is_identity_taken network.streams) may.unidentified) in'.room
 
 -- a stream that may be asked for may be so with any class
-pub enters_with : (topology : DeclaredTopology) (stream : DeclaredStream) (class : ℕ) → MayEnter topology stream
-    → IsClass class → MayEnter topology (with_class stream class)
-enters_with topology stream class may is = record {
+pub enters_with : (network : DeclaredNetwork) (stream : DeclaredStream) (class : ℕ) → MayEnter network stream
+    → IsClass class → MayEnter network (with_class stream class)
+enters_with network stream class may is = record {
   rules = record {
     classes = All-replicate IsClass (length stream.ports) class is;
     each_port = length-replicate (length stream.ports) class;
@@ -68,28 +67,30 @@ enters_with topology stream class may is = record {
     identity = may.rules.identity;
   };
   tree = may.tree;
+  short = may.short;
   one_listener = may.one_listener;
   unidentified = may.unidentified;
 }
 
 -- a stream that is admitted
 pub admitted_keeps : (network : DeclaredNetwork) (stream : DeclaredStream) → IsCertified network
-    → MayEnter network.topology stream → entry_fault network stream ≡ None → reason_with network stream ≡ None
+    → MayEnter network stream → entry_fault network stream ≡ None → reason_with network stream ≡ None
     → StaysCertified network (with_stream network stream)
 admitted_keeps network stream is may entry none = record {
   topology = refl;
+  most_ports = refl;
   certified = record { rules = entered network stream is.rules may entry; free = none };
 }
 
 pub nothing_changes : (network : DeclaredNetwork) → IsCertified network → StaysCertified network network
-nothing_changes network is = record { topology = refl; certified = is }
+nothing_changes network is = record { topology = refl; most_ports = refl; certified = is }
 
 pub no_because : (o : Option Reason) → option_map Because o ≡ None → o ≡ None
 no_because None h = refl
 no_because (Some reason) h = absurd (let no : Some (Because reason) ≡ None = h in cc)
 
 pub admit_keeps : (network : DeclaredNetwork) (stream : DeclaredStream) → IsCertified network
-    → MayEnter network.topology stream → StaysCertified network (after_admit network stream)
+    → MayEnter network stream → StaysCertified network (after_admit network stream)
 admit_keeps network stream is may = by (admit_fault network stream) refl
   where
     by : (o : Option Denied) → admit_fault network stream ≡ o
@@ -104,6 +105,7 @@ pub withdraw_keeps : (network : DeclaredNetwork) (name : List ℕ) → IsCertifi
     → StaysCertified network (without_named network name)
 withdraw_keeps network name is = record {
   topology = refl;
+  most_ports = refl;
   certified = record { rules = without_network network name is.rules; free = free };
 }
   where

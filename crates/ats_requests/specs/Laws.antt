@@ -17,21 +17,22 @@ pub record IsCertified (network : DeclaredNetwork) : Type 0 where
   pub rules : IsNetwork network
   pub free : reason_of network ≡ None
 
--- so it stays after a request, and the topology is the same
+-- so it stays after a request, with the same topology and the same greatest number of ports of a route
 pub record StaysCertified (old new : DeclaredNetwork) : Type 0 where
   pub topology : new.topology ≡ old.topology
+  pub most_ports : new.most_ports ≡ old.most_ports
   pub certified : IsCertified new
 
 abbrev pub RequestKeeps : Type 0
 RequestKeeps =
-    (network : DeclaredNetwork) (request : Request) → IsCertified network → MayAsk network.topology request
+    (network : DeclaredNetwork) (request : Request) → IsCertified network → MayAsk network request
     → StaysCertified network (after network request)
 
 -- and after any requests
 abbrev pub RequestsKeep : Type 0
 RequestsKeep =
     (network : DeclaredNetwork) (requests : List Request) → IsCertified network
-    → All (MayAsk network.topology) requests → StaysCertified network (after_all network requests)
+    → All (MayAsk network) requests → StaysCertified network (after_all network requests)
 
 -- a stream with this class at each port is refused, for some reason against the network with it
 pub record IsDeniedWith (network : DeclaredNetwork) (stream : DeclaredStream) (class : ℕ) : Type 0 where
@@ -63,7 +64,7 @@ NoClassHasReasons =
 -- whether a stream is admitted to a network for which a certificate holds is judged along its ports alone
 abbrev pub AdmitIsJudged : Type 0
 AdmitIsJudged =
-    (network : DeclaredNetwork) (stream : DeclaredStream) → IsCertified network → MayEnter network.topology stream
+    (network : DeclaredNetwork) (stream : DeclaredStream) → IsCertified network → MayEnter network stream
     → entry_fault network stream ≡ None
     → reason_with network stream ≡ reason_judged (with_stream network stream) stream
 

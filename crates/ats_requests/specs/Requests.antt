@@ -1,8 +1,7 @@
 use Rattle.std.specs.Prelude.{◌≡◌, ℕ, List, [], ◌∷◌, slice_index_or, Option, Some, None, Result, Ok, Err}
-use Rattle.ats_topology.specs.Topology.{DeclaredTopology}
 use Rattle.ats_streams.specs.Stream.{DeclaredStream, IsStream}
 use Rattle.ats_network.specs.Edits.{without_named}
-use Rattle.ats_network.specs.Network.{DeclaredNetwork}
+use Rattle.ats_network.specs.Network.{DeclaredNetwork, HasShortRoutes}
 use Rattle.ats_network.specs.Path.{IsTree}
 use Rattle.ats_requests.specs.Admission.{admit, after_admit, admit_lowest, after_lowest, withdraw_fault}
 use Rattle.ats_requests.specs.declared.answer.Answer.{Answer}
@@ -11,19 +10,20 @@ use Rattle.ats_requests.specs.declared.denied.Denied.{Denied}
 use Rattle.ats_requests.specs.declared.request.Request.{Request}
 use Rattle.ats_requests.specs.declared.request.Request.TheVariants.{Admit, Lowest, Withdraw}
 
--- a stream that may be asked for: it keeps a stream's rules, its legs make a tree, as yet it has no branch, and it
--- declares no identity
-pub record MayEnter (topology : DeclaredTopology) (stream : DeclaredStream) : Type 0 where
+-- a stream that may be asked for over a network: it keeps a stream's rules, its legs make a tree, its routes
+-- have no more ports than those of the network may, as yet it has no branch, and it declares no identity
+pub record MayEnter (network : DeclaredNetwork) (stream : DeclaredStream) : Type 0 where
   pub rules : IsStream stream
-  pub tree : IsTree topology stream.ports stream.branches
+  pub tree : IsTree network.topology stream.ports stream.branches
+  pub short : HasShortRoutes network.most_ports stream
   pub one_listener : stream.branches ≡ []
   pub unidentified : stream.identity ≡ None
 
--- a request that may be made over a topology
-abbrev pub MayAsk : DeclaredTopology → Request → Type 0
-MayAsk topology (Admit stream) = MayEnter topology stream
-MayAsk topology (Lowest stream) = MayEnter topology stream
-MayAsk topology (Withdraw name) = Unit {0}
+-- a request that may be made over a network
+abbrev pub MayAsk : DeclaredNetwork → Request → Type 0
+MayAsk network (Admit stream) = MayEnter network stream
+MayAsk network (Lowest stream) = MayEnter network stream
+MayAsk network (Withdraw name) = Unit {0}
 
 -- the class at the first port of a stream
 abbrev pub first_class_of : DeclaredStream → ℕ

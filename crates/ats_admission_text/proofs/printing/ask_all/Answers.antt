@@ -16,7 +16,11 @@ loop-request-preserved c =
     let requests : List Request = into_iter_items c.next.new.self in
     let rest : List Request = into_iter_items c.loop-request.request-iterator in
     let step : IsNext c.loop-request.session c.ask_one.new.session c.in-Some.request =
-    record { is = c.in_ok-ask_one.ensures.after; topology = c.in_ok-ask_one.ensures.topology } in
+    record {
+      is = c.in_ok-ask_one.ensures.after;
+      topology = c.in_ok-ask_one.ensures.topology;
+      most_ports = c.in_ok-ask_one.ensures.most_ports;
+    } in
     record {
       may = may_rest c.loop-request.session c.ask_one.new.session c.in-Some.request requests rest step
           c.in-Some.ensures.steps.0 c.loop-request.invariant.may;

@@ -14,20 +14,20 @@ loop-at-preserved c = record {
   due = search rules;
   allowed = elim c.if-not-is_skipped.branch [
     | then-not-is_skipped+in_ok-request+in_ok-push w ↦
-        more_allowed c.topology-topology.result.now c.args.network.now.topology c.loop-at.requests.items
-        c.if-not-is_skipped.requests.items w.in_ok-request.request c.topology-topology.ensures.value
+        more_allowed c.args.network.now c.loop-at.requests.items
+        c.if-not-is_skipped.requests.items w.in_ok-request.request
         c.loop-at.invariant.allowed w.in_ok-request.ensures.allowed
         (ap (λ (v : Vec Request). v.items) w.requests-is ∙ w.in_ok-push.ensures.items)
     | else-not-is_skipped w ↦
-        subst (λ (v : Vec Request). All (MayAsk c.args.network.now.topology) v.items) (sym w.requests-is)
+        subst (λ (v : Vec Request). All (MayAsk c.args.network.now) v.items) (sym w.requests-is)
         c.loop-at.invariant.allowed
   ];
   some = search rules;
   kept = elim c.if-not-is_skipped.branch [
     | then-not-is_skipped+in_ok-request+in_ok-push w ↦
-        subst (AreKeptFor c.topology-topology.result.now) (sym w.walks-is) w.in_ok-request.ensures.kept
+        subst (AreKeptFor c.args.network.now.topology) (sym w.walks-is) w.in_ok-request.ensures.kept
     | else-not-is_skipped w ↦
-        subst (AreKeptFor c.topology-topology.result.now) (sym w.walks-is) c.loop-at.invariant.kept
+        subst (AreKeptFor c.args.network.now.topology) (sym w.walks-is) c.loop-at.invariant.kept
   ];
   within = search rules;
   few = search rules;

@@ -9,11 +9,11 @@ use Rattle.ats_request_file.proofs.reading.read_requests.Given as goal
 -- the lines left, after the requests so far, give what all lines give
 abbrev pub invariant-loop-at : goal.invariant-loop-at
 invariant-loop-at l = record {
-  due : requests_from l.topology l.requests.items l.number (lines_of (drop l.at l.bytes))
-      ≡ requests_of l.network.topology l.bytes;
-  allowed : All (MayAsk l.network.topology) l.requests.items;
+  due : requests_from l.network l.requests.items l.number (lines_of (drop l.at l.bytes))
+      ≡ requests_of l.network l.bytes;
+  allowed : All (MayAsk l.network) l.requests.items;
   some : length l.requests.items ≤ 10000;
-  kept : AreKeptFor l.topology l.walks;
+  kept : AreKeptFor l.network.topology l.walks;
   within : l.at ≤ length l.bytes;
   few : l.number ≤ l.at + 1;
 }
