@@ -9,7 +9,7 @@ use Rattle.std.proofs.lemmas.List.Elements.{All-nil, All-cons}
 use Rattle.toml.specs.Data.{Data, Members, get_member}
 use Rattle.ats_network_table.specs.Kinds.{address_in, name_in, one_or_more}
 use Rattle.ats_network_table.specs.Walk.{Entry, has, formed, name_at, whole_at, classes_at, identity_at}
-use Rattle.ats_network_table.specs.Walk.{at, IsIdentity, has_paths, listeners_at, may_branch, path_at, paths_at}
+use Rattle.ats_network_table.specs.Walk.{at, IsIdentity, has_paths, listeners_at, may_branch, path_at, paths_at, top_of}
 use Rattle.ats_network_table.specs.Words.{key_text}
 use Rattle.ats_network_table.specs.declared.fault.DocumentFault.{DocumentFault}
 use Rattle.ats_network_table.specs.declared.fault.DocumentFault.TheVariants as fault
@@ -19,10 +19,11 @@ use Rattle.ats_network_table.specs.declared.key.Key.TheVariants as key
 use Rattle.ats_network_table.specs.declared.table.Table.{Table}
 use Rattle.ats_network_table.specs.declared.table.Table.TheVariants as table
 use Rattle.ats_network_toml.specs.Document.{DeclaredDocument, DeclaredStream, DeclaredFlow, DeclaredRoute, ends, path}
+use Rattle.ats_network_toml.specs.Document.{DeclaredLinkLocal, DeclaredLinkLocalFlow}
 use Rattle.ats_network_toml.specs.Entries.{station_in, bridge_in, link_in, stream_in, flow_in, routes_at}
-use Rattle.ats_network_toml.specs.Entries.{numbers_in}
+use Rattle.ats_network_toml.specs.Entries.{link_local_in, link_local_flow_in, numbers_in}
 use Rattle.ats_network_toml.specs.Reading.{Arrays, entries_from, entries_in, arrays_in, arrays_read, document_in}
-use Rattle.ats_network_toml.specs.Reading.{document_of, format_in, tree_of}
+use Rattle.ats_network_toml.specs.Reading.{document_of, entries_within, format_in, senders_for, tree_of}
 use Rattle.ats_num.specs.Failure.{◌>>=◌, or_fault}
 use Rattle.ats_network_toml.specs.declared.entries.StationEntry.{StationEntry}
 use Rattle.ats_network_toml.specs.declared.entries.BridgeEntry.{BridgeEntry}
@@ -202,43 +203,119 @@ streams_kept before f tables xs other h = by (nat_lt 4096 (length tables)) h
     by true h = cc
     by false h = array_kept (IsKept before) stream_in f table.Stream keeps 1 tables xs h
 
-arrays_from : (before : Type 0) (stations : Result (List StationEntry) DocumentFault) (bridges : List StationEntry
-    → Result (List BridgeEntry) DocumentFault) (links : Result (List LinkEntry) DocumentFault)
-    (streams : Result (List DeclaredStream) DocumentFault) (flows : Result (List DeclaredFlow) DocumentFault)
+-- the document that is read
+pub read_is : (x y : DeclaredDocument) → (let r : Result DeclaredDocument DocumentFault = Ok x in r) ≡ Ok y → x ≡ y
+read_is x y h = cc h
+
+arrays_from : (before : Type 0) (format : Format) (stations : Result (List StationEntry) DocumentFault)
+    (bridges : List StationEntry → Result (List BridgeEntry) DocumentFault)
+    (links : Result (List LinkEntry) DocumentFault)
+    (streams : Result (List DeclaredStream) DocumentFault)
+    (at_ports : List LinkEntry → List DeclaredStream → Result (List DeclaredLinkLocal) DocumentFault)
+    (flows : Result (List DeclaredFlow) DocumentFault)
+    (flows_there : List LinkEntry → List DeclaredFlow → Result (List DeclaredLinkLocalFlow) DocumentFault)
     → ((xs : List DeclaredStream) → streams ≡ Ok xs → All (IsKept before) xs)
     → (d : DeclaredDocument)
     → (stations >>= λ stations. bridges stations >>= λ bridges. links >>= λ links. streams
-    >>= λ streams. flows >>= λ flows.
-    Ok (record { stations = stations; bridges = bridges; links = links; streams = streams; flows = flows })) ≡ Ok d
+    >>= λ streams. at_ports links streams >>= λ link_locals. flows >>= λ flows. flows_there links flows
+    >>= λ link_local_flows.
+    Ok (record {
+      format = format;
+      stations = stations;
+      bridges = bridges;
+      links = links;
+      streams = streams;
+      link_locals = link_locals;
+      flows = flows;
+      link_local_flows = link_local_flows;
+    })) ≡ Ok d
     → All (IsKept before) d.streams
-arrays_from before stations bridges links streams flows kept d h =
+arrays_from before format stations bridges links streams at_ports flows flows_there kept d h =
     let a = both stations _ d h in
     let b = both (bridges a.first) _ d a.then in
     let c = both links _ d b.then in
     let s = both streams _ d c.then in
-    let l = both flows _ d s.then in
-    let same : s.first ≡ d.streams = cc (l.then) in
+    let p = both (at_ports c.first s.first) _ d s.then in
+    let l = both flows _ d p.then in
+    let q = both (flows_there c.first l.first) _ d l.then in
+    let same : s.first ≡ d.streams = ap (λ (x : DeclaredDocument). x.streams) (read_is _ d q.then) in
     subst (All (IsKept before)) same (kept s.first s.is)
+
+-- and it has the format of its arrays
+format_from : (format : Format) (stations : Result (List StationEntry) DocumentFault)
+    (bridges : List StationEntry → Result (List BridgeEntry) DocumentFault)
+    (links : Result (List LinkEntry) DocumentFault)
+    (streams : Result (List DeclaredStream) DocumentFault)
+    (at_ports : List LinkEntry → List DeclaredStream → Result (List DeclaredLinkLocal) DocumentFault)
+    (flows : Result (List DeclaredFlow) DocumentFault)
+    (flows_there : List LinkEntry → List DeclaredFlow → Result (List DeclaredLinkLocalFlow) DocumentFault)
+    (d : DeclaredDocument)
+    → (stations >>= λ stations. bridges stations >>= λ bridges. links >>= λ links. streams
+    >>= λ streams. at_ports links streams >>= λ link_locals. flows >>= λ flows. flows_there links flows
+    >>= λ link_local_flows.
+    Ok (record {
+      format = format;
+      stations = stations;
+      bridges = bridges;
+      links = links;
+      streams = streams;
+      link_locals = link_locals;
+      flows = flows;
+      link_local_flows = link_local_flows;
+    })) ≡ Ok d
+    → format ≡ d.format
+format_from format stations bridges links streams at_ports flows flows_there d h =
+    let a = both stations _ d h in
+    let b = both (bridges a.first) _ d a.then in
+    let c = both links _ d b.then in
+    let s = both streams _ d c.then in
+    let p = both (at_ports c.first s.first) _ d s.then in
+    let l = both flows _ d p.then in
+    let q = both (flows_there c.first l.first) _ d l.then in
+    ap (λ (x : DeclaredDocument). x.format) (read_is _ d q.then)
 
 arrays_kept : (before : Type 0) (arrays : Arrays) (d : DeclaredDocument) → (before → arrays.format ≡ Three → ⊥)
     → arrays_read arrays ≡ Ok d → All (IsKept before) d.streams
 arrays_kept before arrays d other h =
     let f = arrays.format in
-    arrays_from before (entries_in station_in f table.Station 1024 arrays.stations)
+    arrays_from before f (entries_in station_in f table.Station 1024 arrays.stations)
     (λ stations. entries_in bridge_in f table.Bridge (1024 - length stations) arrays.bridges)
     (entries_in link_in f table.Link 2048 arrays.links) (entries_in stream_in f table.Stream 4096 arrays.streams)
-    (entries_in flow_in f table.Flow 1024 arrays.flows) (λ xs. streams_kept before f arrays.streams xs other) d h
+    (λ links streams. entries_within link_local_in f table.LinkLocal 4096
+    (senders_for streams arrays.link_locals links) arrays.link_locals)
+    (entries_in flow_in f table.Flow 1024 arrays.flows)
+    (λ links flows. entries_within link_local_flow_in f table.LinkLocalFlow 4096
+    (senders_for flows arrays.link_local_flows links) arrays.link_local_flows)
+    (λ xs. streams_kept before f arrays.streams xs other) d h
 
--- each stream of a document that is read keeps it
-pub document_kept : (text : List ℕ) (d : DeclaredDocument) → document_of text ≡ Ok d
-    → All (IsKept (IsBeforeFormat3 text)) d.streams
+pub format_read : (arrays : Arrays) (d : DeclaredDocument) → arrays_read arrays ≡ Ok d → arrays.format ≡ d.format
+format_read arrays d h =
+    let f = arrays.format in
+    format_from f (entries_in station_in f table.Station 1024 arrays.stations)
+    (λ stations. entries_in bridge_in f table.Bridge (1024 - length stations) arrays.bridges)
+    (entries_in link_in f table.Link 2048 arrays.links) (entries_in stream_in f table.Stream 4096 arrays.streams)
+    (λ links streams. entries_within link_local_in f table.LinkLocal 4096
+    (senders_for streams arrays.link_locals links) arrays.link_locals)
+    (entries_in flow_in f table.Flow 1024 arrays.flows)
+    (λ links flows. entries_within link_local_flow_in f table.LinkLocalFlow 4096
+    (senders_for flows arrays.link_local_flows links) arrays.link_local_flows) d h
+
+-- what a document that is read keeps: each of its streams keeps it, and its format is the one that the text gives
+pub record IsDocumentOf (text : List ℕ) (d : DeclaredDocument) : Type 0 where
+  pub streams : All (IsKept (IsBeforeFormat3 text)) d.streams
+  pub format : format_in text ≡ Ok d.format
+
+pub document_kept : (text : List ℕ) (d : DeclaredDocument) → document_of text ≡ Ok d → IsDocumentOf text d
 document_kept text d h =
     let tree = both (or_fault fault.NotToml (tree_of text)) document_in d h in
     let arrays =
-    both (arrays_in (record { format = One; table = table.Top; number = 0; members = tree.first })) arrays_read d
-    tree.then in
+    both (arrays_in (top_of tree.first)) arrays_read d tree.then in
     let format_is : format_in text ≡ Ok arrays.first.format =
     ap (λ (r : Result Members DocumentFault). r >>= λ ms.
-    arrays_in (record { format = One; table = table.Top; number = 0; members = ms }) >>= λ a. Ok a.format) tree.is
+    arrays_in (top_of ms) >>= λ a. Ok a.format) tree.is
     ∙ ap (λ (r : Result Arrays DocumentFault). r >>= λ a. Ok a.format) arrays.is in
-    arrays_kept (IsBeforeFormat3 text) arrays.first d (λ before is. before (format_is ∙ ap Ok is)) arrays.then
+    record {
+      streams = arrays_kept (IsBeforeFormat3 text) arrays.first d (λ before is. before (format_is ∙ ap Ok is))
+          arrays.then;
+      format = format_is ∙ ap Ok (format_read arrays.first d arrays.then);
+    }

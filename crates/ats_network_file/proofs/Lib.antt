@@ -5,5 +5,9 @@ pub mod Identities
 pub mod Documents
 pub mod SenderLemmas
 pub mod Trees
+pub mod Placed
+pub mod PortNames
+pub mod Joined
 pub mod Networks
 pub mod LegsFound
+pub mod Made

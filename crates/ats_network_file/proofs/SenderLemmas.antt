@@ -3,18 +3,19 @@ use Rattle.std.proofs.Common.{Some, None, refl, sym, subst}
 use Rattle.std.specs.Prelude.{nat_lt, ◌==◌}
 use Rattle.std.specs.List.{All, list_any}
 use Rattle.std.proofs.lemmas.Bool.{or_parts, ltb-false}
-use Rattle.std.proofs.lemmas.List.Elements.{All-nil, All-cons, All-replicate}
+use Rattle.std.proofs.lemmas.List.Elements.{All-nil, All-cons, All-head, All-replicate}
 use Rattle.ats_facts.proofs.Options.{option_or-none}
 use Rattle.ats_num.specs.Wire.{bits_of}
 use Rattle.ats_num.specs.declared.rate.TheConstants.{MAX_BPS, MAX_BURST_BITS}
 use Rattle.ats_num.specs.declared.wire.TheConstants.{MIN_OCTETS, MAX_OCTETS}
 use Rattle.ats_streams.specs.Rules.{KeepsRules}
 use Rattle.ats_streams.specs.Fault.{rules_fault}
-use Rattle.ats_streams.specs.Branches.{AreBranches, is_bad_route, routes_of}
-use Rattle.ats_streams.specs.Flow.{DeclaredFlow, IsFlow, flow_fault}
+use Rattle.ats_streams.specs.Branches.{AreBranches, AreShort, is_bad_route, routes_of}
+use Rattle.ats_streams.specs.Flow.{DeclaredFlow, IsFlow, flow_fault, flow_fault_within}
 use Rattle.ats_streams.specs.Path.{IsPath}
 use Rattle.ats_streams.specs.Stream.{DeclaredStream, IsStream, IsClass, MayIdentify, stream_fault, limit_fault}
-use Rattle.ats_streams.specs.Stream.{is_bad_class, are_bad_classes, classes_for}
+use Rattle.ats_streams.specs.Stream.{is_bad_class, are_bad_classes, classes_for, route_fault, stream_fault_within}
+use Rattle.ats_network.specs.Network.{HasShortPath, HasShortRoutes}
 use Rattle.ats_streams.proofs.ClassLemmas.{so_many}
 use Rattle.ats_streams.specs.declared.path.TheConstants.{MAX_PORTS}
 use Rattle.ats_streams.specs.declared.stream.TheConstants.{MAX_CLASS, MAX_DEADLINE_NS}
@@ -93,16 +94,16 @@ classes_kept ports given h =
     or_parts (list_any is_bad_class given) (not (length given == 1) && not (length given == ports)) h in
     record { each = along_kept ports given parts.0; count = so_many ports given h }
 
-route_kept : (route : List ℕ) → is_bad_route route ≡ false → IsPath route
+route_kept : (route : List ℕ) → is_bad_route MAX_PORTS route ≡ false → IsPath route
 route_kept route h =
     let within : Between 1 MAX_PORTS (length route) = between 1 MAX_PORTS (length route) h in
     record { least = within.above; most = within.below }
 
-routes_kept : (routes : List (List ℕ)) → list_any is_bad_route routes ≡ false → All IsPath routes
+routes_kept : (routes : List (List ℕ)) → list_any (is_bad_route MAX_PORTS) routes ≡ false → All IsPath routes
 routes_kept [] h = All-nil IsPath
 routes_kept (route ∷ routes) h =
-    let parts : (is_bad_route route ≡ false) × (list_any is_bad_route routes ≡ false) =
-    or_parts (is_bad_route route) (list_any is_bad_route routes) h in
+    let parts : (is_bad_route MAX_PORTS route ≡ false) × (list_any (is_bad_route MAX_PORTS) routes ≡ false) =
+    or_parts (is_bad_route MAX_PORTS route) (list_any (is_bad_route MAX_PORTS) routes) h in
     All-cons IsPath route routes (route_kept route parts.0) (routes_kept routes parts.1)
 
 -- each route of a stream without a fault is a path
@@ -114,7 +115,7 @@ routes_keep given s h =
     let b =
     option_or-none (rules_fault s.rate s.burst_bits s.min_octets s.max_octets) (limit_fault routes s.deadline_ns)
     a.none in
-    let c = passed (list_any is_bad_route routes) _ _ b.1 in
+    let c = passed (list_any (is_bad_route MAX_PORTS) routes) _ _ b.1 in
     routes_kept routes c.test
 
 -- a stream without a fault, whose branches are lawful and whose identity is one, keeps what each stream keeps
@@ -126,7 +127,7 @@ stream_keeps given s along branches identity h =
     let b =
     option_or-none (rules_fault s.rate s.burst_bits s.min_octets s.max_octets) (limit_fault routes s.deadline_ns)
     a.none in
-    let c = passed (list_any is_bad_route routes) _ _ b.1 in
+    let c = passed (list_any (is_bad_route MAX_PORTS) routes) _ _ b.1 in
     let d = passed (nat_lt s.deadline_ns 1 || nat_lt MAX_DEADLINE_NS s.deadline_ns) _ _ c.none in
     let classes : AreClasses (length s.ports) s.classes =
     subst (AreClasses (length s.ports)) (sym along) (classes_kept (length s.ports) given a.test) in
@@ -152,3 +153,35 @@ flow_keeps f h =
       size = record { least = size.above; most = size.below };
       path = record { least = ports.above; most = ports.below };
     }
+
+-- of one that breaks no rule where a route may have so many ports, the rules of each stream or flow are kept, and no
+-- route has more
+routes_short : (most : ℕ) (routes : List (List ℕ)) → list_any (is_bad_route most) routes ≡ false → AreShort most routes
+routes_short most [] h = All-nil (λ (route : List ℕ). length route ≤ most)
+routes_short most (route ∷ routes) h =
+    let parts : (is_bad_route most route ≡ false) × (list_any (is_bad_route most) routes ≡ false) =
+    or_parts (is_bad_route most route) (list_any (is_bad_route most) routes) h in
+    let within : Between 1 most (length route) = between 1 most (length route) parts.0 in
+    All-cons (λ (route : List ℕ). length route ≤ most) route routes within.below (routes_short most routes parts.1)
+
+pub stream_faultless : (most : ℕ) (given : List ℕ) (s : DeclaredStream) → stream_fault_within most given s ≡ None
+    → stream_fault given s ≡ None
+stream_faultless most given s h =
+    (option_or-none (stream_fault given s) (route_fault most (routes_of s.ports s.branches)) h).0
+
+pub stream_short : (most : ℕ) (given : List ℕ) (s : DeclaredStream) → stream_fault_within most given s ≡ None
+    → HasShortRoutes most s
+stream_short most given s h =
+    let routes : List (List ℕ) = routes_of s.ports s.branches in
+    let parts = option_or-none (stream_fault given s) (route_fault most routes) h in
+    let a = passed (list_any (is_bad_route most) routes) _ _ parts.1 in
+    routes_short most routes a.test
+
+pub flow_faultless : (most : ℕ) (f : DeclaredFlow) → flow_fault_within most f ≡ None → flow_fault f ≡ None
+flow_faultless most f h = (option_or-none (flow_fault f) (route_fault most (f.path ∷ [])) h).0
+
+pub flow_short : (most : ℕ) (f : DeclaredFlow) → flow_fault_within most f ≡ None → HasShortPath most f
+flow_short most f h =
+    let parts = option_or-none (flow_fault f) (route_fault most (f.path ∷ [])) h in
+    let a = passed (list_any (is_bad_route most) (f.path ∷ [])) _ _ parts.1 in
+    All-head (λ (route : List ℕ). length route ≤ most) f.path [] (routes_short most (f.path ∷ []) a.test)

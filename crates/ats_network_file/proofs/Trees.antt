@@ -10,18 +10,20 @@ use Rattle.std.proofs.lemmas.List.Elements.{All-cons, All-head, All-nil, All-pus
 use Rattle.std.proofs.lemmas.Option.{none-some, same_Some}
 use Rattle.ats_topology.specs.Topology.{DeclaredTopology}
 use Rattle.ats_network.specs.Path.{IsValidPath}
+use Rattle.ats_streams.specs.Branches.{routes_of}
+use Rattle.ats_network_table.specs.declared.format.Format.{Format}
 use Rattle.ats_network_toml.specs.Document as file
 use Rattle.ats_route_tree.specs.Legs.{DeclaredLegs, HasLegs, HaveRoutes}
 use Rattle.ats_route_tree.specs.LegsView.{routes_in}
 use Rattle.ats_route_tree.specs.Steps.{legs_found}
 use Rattle.ats_route_tree.proofs.Found.{found_valid, have_valid, legs_once, legs_or_none}
 use Rattle.ats_network_file.specs.Routes.{is_valid, legs_of, legs_where, legs_with, path_of, paths_of, ports_of}
-use Rattle.ats_network_file.specs.Routes.{ports_of_each}
+use Rattle.ats_network_file.specs.Routes.{may_declare, ports_of_each}
 use Rattle.ats_network_file.specs.Senders.{legs_in}
-use Rattle.ats_network_file.specs.declared.senders.SenderTable.TheVariants.{Stream}
+use Rattle.ats_network_file.specs.declared.senders.Place.{Place}
 use Rattle.ats_network_file.specs.declared.fault.NetFault.TheVariants as net
-use Rattle.ats_network_file.proofs.Steps.{or_fault_ok}
-use Rattle.ats_num.specs.Failure.{or_fault}
+use Rattle.ats_network_file.proofs.Steps.{both, Given, ok_where_ok, or_fault_ok}
+use Rattle.ats_num.specs.Failure.{◌>>=◌, ok_where, or_fault}
 use Rattle.ats_network_file.proofs.ValidPaths.{valid_passed, valid_passes}
 
 -- they have these routes
@@ -149,6 +151,27 @@ legs_of_paths topology routes = by (paths_of topology routes) refl
     by (Some paths) e = ap (option_and_then (legs_with topology)) (paths_are topology routes paths e)
         ∙ legs_by_steps topology paths (paths_valid topology routes paths e)
 
+-- the legs of an entry are those of its routes, and a file of the format may declare these
+pub record IsDeclared (format : Format) (topology : DeclaredTopology) (place : Place) (routes : List file.DeclaredRoute)
+    (legs : DeclaredLegs) : Type 0 where
+  pub are : legs_of topology routes ≡ Some legs
+  pub may : may_declare format topology (routes_of legs.ports legs.branches) ≡ true
+
+pub legs_declared : (format : Format) (topology : DeclaredTopology) (place : Place) (routes : List file.DeclaredRoute)
+    (legs : DeclaredLegs) → legs_in format topology place routes ≡ Ok legs
+    → IsDeclared format topology place routes legs
+legs_declared format topology place routes legs h =
+    let May : DeclaredLegs → Bool = λ (l : DeclaredLegs). may_declare format topology (routes_of l.ports l.branches) in
+    let found = both (or_fault (net.BadPath place.table place.number) (legs_of topology routes))
+    (λ l. ok_where (May l) (net.BadPath place.table place.number) l) legs h in
+    let given : Given (May found.first) found.first legs =
+    ok_where_ok (May found.first) (net.BadPath place.table place.number) found.first legs found.then in
+    record {
+      are = or_fault_ok (net.BadPath place.table place.number) (legs_of topology routes) found.first found.is
+          ∙ ap Some given.same;
+      may = ap May (sym given.same) ∙ given.passed;
+    }
+
 -- the ports of some routes, one after another
 pub record IsRouted (topology : DeclaredTopology) (routes : List file.DeclaredRoute) (legs : DeclaredLegs) : Type 0
   where
@@ -157,10 +180,11 @@ pub record IsRouted (topology : DeclaredTopology) (routes : List file.DeclaredRo
     pub have : HaveRoutes topology paths legs
 
 -- the legs of an entry have its routes
-pub legs_kept : (topology : DeclaredTopology) (n : ℕ) (routes : List file.DeclaredRoute) (legs : DeclaredLegs)
-    → legs_in topology n routes ≡ Ok legs → IsRouted topology routes legs
-legs_kept topology n routes legs h =
-    by (ports_of_each topology routes) refl (or_fault_ok (net.BadPath Stream n) (legs_of topology routes) legs h)
+pub legs_kept : (format : Format) (topology : DeclaredTopology) (place : Place) (routes : List file.DeclaredRoute)
+    (legs : DeclaredLegs) → legs_in format topology place routes ≡ Ok legs → IsRouted topology routes legs
+legs_kept format topology place routes legs h =
+    let given : IsDeclared format topology place routes legs = legs_declared format topology place routes legs h in
+    by (ports_of_each topology routes) refl given.are
   where
     by : (o : Option (List (List ℕ))) → ports_of_each topology routes ≡ o
         → option_and_then (legs_with topology) o ≡ Some legs → IsRouted topology routes legs
@@ -202,13 +226,27 @@ path_none found one rest is = ap (λ (o : Option (List ℕ)). option_map (λ ys.
     (option_and_then (λ p. option_map (λ ps. p ∷ ps) rest) o)) is
 
 -- what the steps find is what an entry has
-pub legs_given : (topology : DeclaredTopology) (n : ℕ) (routes : List file.DeclaredRoute)
+pub legs_given : (format : Format) (topology : DeclaredTopology) (place : Place) (routes : List file.DeclaredRoute)
     (paths : Option (List (List ℕ))) (legs : Option DeclaredLegs) → paths_of topology routes ≡ paths
     → option_and_then (legs_found topology) paths ≡ legs
-    → legs_in topology n routes ≡ or_fault (net.BadPath Stream n) legs
-legs_given topology n routes paths legs p l =
-    ap (or_fault (net.BadPath Stream n)) (legs_of_paths topology routes
-    ∙ ap (option_and_then (legs_found topology)) p ∙ l)
+    → legs_in format topology place routes ≡ or_fault (net.BadPath place.table place.number) legs
+    >>= λ l. ok_where (may_declare format topology (routes_of l.ports l.branches))
+    (net.BadPath place.table place.number) l
+legs_given format topology place routes paths legs p l =
+    ap (λ (o : Option DeclaredLegs). or_fault (net.BadPath place.table place.number) o
+    >>= λ l. ok_where (may_declare format topology (routes_of l.ports l.branches))
+    (net.BadPath place.table place.number) l)
+    (legs_of_paths topology routes ∙ ap (option_and_then (legs_found topology)) p ∙ l)
+
+-- where they are found, a file of the format may declare them or not
+pub legs_settled : (format : Format) (topology : DeclaredTopology) (place : Place) (routes : List file.DeclaredRoute)
+    (paths : List (List ℕ)) (legs : DeclaredLegs) (may : Bool) → paths_of topology routes ≡ Some paths
+    → legs_found topology paths ≡ Some legs → HaveRoutes topology paths legs → may_declare format topology paths ≡ may
+    → legs_in format topology place routes ≡ ok_where may (net.BadPath place.table place.number) legs
+legs_settled format topology place routes paths legs may p l have m =
+    legs_given format topology place routes (Some paths) (Some legs) p l
+    ∙ ap (λ (t : Bool). ok_where t (net.BadPath place.table place.number) legs)
+    (ap (may_declare format topology) have.routes_are ∙ m)
 
 -- the paths so far with one more, in front of those left
 pub path_step : (topology : DeclaredTopology) (found : List (Vec ℕ)) (more : List (Vec ℕ)) (ports : Vec ℕ)

@@ -1,9 +1,10 @@
 use Rattle.std.proofs.Common.{◌≡◌, ◌≢◌, ℕ, ◌<◌, Bool, true, false, List, [], ◌∷◌, length, refl, sym, subst}
-use Rattle.std.proofs.Common.{◌⊎◌, inl, inr}
+use Rattle.std.proofs.Common.{◌⊎◌, inl, inr, arith}
 use Rattle.std.specs.List.{AllPairs}
 use Rattle.std.proofs.lemmas.Bool.{false≢true}
 use Rattle.ats_topology.specs.Topology.{DeclaredTopology, IsTopology}
 use Rattle.ats_network.specs.Path.{IsValidPath}
+use Rattle.ats_network.proofs.BridgeLemmas.{talker_within}
 use Rattle.ats_network.proofs.PathLemmas.{nodes_to}
 use Rattle.ats_network.proofs.PathTests.{valid_or_not}
 use Rattle.ats_network.proofs.SimpleWalks.{SimpleWalk, simple_short}
@@ -38,7 +39,7 @@ same_test false false f g = refl
 -- a valid path of a topology has fewer ports than there are nodes
 pub valid_short : (topology : DeclaredTopology) (path : List ℕ) → IsTopology topology → IsValidPath topology path
     → length path < length topology.nodes
-valid_short topology [] is valid = absurd (valid.differ valid.walk)
+valid_short topology [] is valid = absurd (omega (arith, valid.some))
 valid_short topology (p ∷ path) is valid =
     let walk : SimpleWalk topology.ports valid.talker valid.listener = record {
       walk = p ∷ path;
@@ -46,4 +47,4 @@ valid_short topology (p ∷ path) is valid =
       apart = subst (λ (n : ℕ). AllPairs (λ a b. a ≢ b) (n ∷ nodes_to topology.ports (p ∷ path)))
           valid.walk.0.from valid.apart;
     } in
-    simple_short topology valid.talker valid.listener is valid.begins.within walk
+    simple_short topology valid.talker valid.listener is (talker_within topology (p ∷ path) is valid) walk

@@ -1,7 +1,9 @@
 pub mod Routes
 pub mod KeptSteps
 pub mod KeptRoutes
+pub mod LinkLocal
 pub mod Senders
 pub mod Reading
+pub mod Stations
 pub mod FaultText
 pub mod Laws

@@ -4,16 +4,18 @@ use Rattle.ats_topology.specs.Topology.{DeclaredTopology, topology_of}
 use Rattle.ats_topology.specs.declared.node.Kind.TheVariants.{Station, Bridge}
 use Rattle.ats_topology.specs.declared.node.Node.{Node}
 use Rattle.ats_topology.specs.declared.link.Link.{Link}
-use Rattle.ats_network.specs.Network.{DeclaredNetwork, declared_network}
+use Rattle.ats_streams.specs.declared.path.TheConstants.{MAX_PORTS, MAX_SHORT_PORTS}
+use Rattle.ats_network.specs.Network.{DeclaredNetwork, network_within}
 use Rattle.ats_network_table.specs.declared.fault.DocumentFault.{DocumentFault}
-use Rattle.ats_network_table.specs.declared.format.Format.TheVariants.{Three}
+use Rattle.ats_network_table.specs.declared.format.Format.{Format}
+use Rattle.ats_network_table.specs.declared.format.Format.TheVariants.{One, Two, Three}
 use Rattle.ats_network_toml.specs.Document as file
 use Rattle.ats_network_toml.specs.Reading.{document_of, format_in}
 use Rattle.ats_network_toml.specs.declared.entries.StationEntry.{StationEntry}
 use Rattle.ats_network_toml.specs.declared.entries.BridgeEntry.{BridgeEntry}
 use Rattle.ats_network_toml.specs.declared.entries.LinkEntry.{LinkEntry}
 use Rattle.ats_num.specs.Failure.{◌>>=◌, unless}
-use Rattle.ats_network_file.specs.Senders.{all_added, stream_added, flow_added}
+use Rattle.ats_network_file.specs.Senders.{all_added, stream_added, streams_in, flow_added, flows_in}
 use Rattle.ats_network_file.specs.declared.fault.NetFault.{NetFault}
 use Rattle.ats_network_file.specs.declared.fault.NetFault.TheVariants.{Form, Topology}
 
@@ -43,12 +45,19 @@ links_of d = map link_of d.links
 abbrev pub topology_in : file.DeclaredDocument → Result DeclaredTopology NetFault
 topology_in d = unless Topology (topology_fault (nodes_of d) (links_of d)) (topology_of (nodes_of d) (links_of d))
 
+-- the most ports of a route, by the format
+abbrev pub most_ports_of : Format → ℕ
+most_ports_of One = MAX_SHORT_PORTS
+most_ports_of Two = MAX_SHORT_PORTS
+most_ports_of Three = MAX_PORTS
+
 -- the network of a document: its topology, then its streams, then its flows; or the first fault
 abbrev pub network_in : file.DeclaredDocument → Result DeclaredNetwork NetFault
 network_in d = do
   topology ← topology_in d
-  streamed ← all_added stream_added (declared_network topology [] []) 1 d.streams
-  all_added flow_added streamed 1 d.flows
+  streamed ← all_added (stream_added d.format) (network_within topology (most_ports_of d.format) [] [])
+      (streams_in topology d)
+  all_added (flow_added d.format) streamed (flows_in topology d)
 
 -- the network that a text declares, or its first fault
 abbrev pub network_of : List ℕ → Result DeclaredNetwork NetFault

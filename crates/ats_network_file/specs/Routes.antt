@@ -1,15 +1,19 @@
 use Rattle.std.specs.Prelude.{◌⊎◌, ℕ, Bool, true, false, List, [], ◌∷◌, Option, None, Some, option_and_then}
 use Rattle.std.specs.Prelude.{if◌then◌else◌}
+use Rattle.std.specs.List.{list_all}
 use Rattle.std.specs.Option.{option_map}
 use Rattle.std.proofs.Common.{inl, inr}
 use Rattle.ats_num.specs.Places.{place_of}
 use Rattle.ats_topology.specs.Node.{names_of}
 use Rattle.ats_topology.specs.Port.{port_at, port_between}
 use Rattle.ats_topology.specs.Topology.{DeclaredTopology}
+use Rattle.ats_network.specs.Ends.{joins_stations}
 use Rattle.ats_network.specs.Shortest.{shortest_of}
 use Rattle.ats_network.proofs.PathTests.{valid_or_not}
 use Rattle.ats_route_tree.specs.Legs.{DeclaredLegs, HasLegs}
 use Rattle.ats_route_tree.proofs.Found.{legs_or_none}
+use Rattle.ats_network_table.specs.declared.format.Format.{Format}
+use Rattle.ats_network_table.specs.declared.format.Format.TheVariants.{One, Two, Three}
 use Rattle.ats_network_toml.specs.Document as file
 
 -- the port from a node to the one with this name, where a link joins them
@@ -73,3 +77,9 @@ abbrev pub paths_of : DeclaredTopology → List file.DeclaredRoute → Option (L
 paths_of topology [] = Some []
 paths_of topology (route ∷ routes) =
     option_and_then (λ path. option_map (λ paths. path ∷ paths) (paths_of topology routes)) (path_of topology route)
+
+-- a file of this format may declare these routes: in format 3 they begin and end at any nodes, and before at stations
+abbrev pub may_declare : Format → DeclaredTopology → List (List ℕ) → Bool
+may_declare One topology routes = list_all (joins_stations topology) routes
+may_declare Two topology routes = list_all (joins_stations topology) routes
+may_declare Three topology routes = true

@@ -20,28 +20,29 @@ pub enum NetFault {
     Form(DocumentFault),
     /// The nodes and links have a fault; stations are counted before bridges.
     Topology(TopologyFault),
-    /// The route of a stream or flow has an unknown node, no link between neighbours, no walk
-    /// between its ends, or is no valid path.
+    /// A route of a stream or flow has an unknown node, no link between neighbours, no walk between
+    /// its ends, or is no valid path; or, before format 3, it does not join stations; or the routes
+    /// of a stream are those of no tree.
     BadPath {
-        /// Whether it is a stream or a flow.
+        /// Whether it is declared as a stream or a flow, or for each port.
         table: SenderTable,
-        /// Its number.
+        /// The number of the entry.
         entry: u32,
     },
     /// A stream or flow breaks a rule.
     Sender {
-        /// Whether it is a stream or a flow.
+        /// Whether it is declared as a stream or a flow, or for each port.
         table: SenderTable,
-        /// Its number.
+        /// The number of the entry.
         entry: u32,
         /// The first rule that it breaks.
         fault: StreamFault,
     },
     /// An earlier stream or flow has the name.
     SenderTwice {
-        /// Whether it is a stream or a flow.
+        /// Whether it is declared as a stream or a flow, or for each port.
         table: SenderTable,
-        /// Its number.
+        /// The number of the entry.
         entry: u32,
     },
     /// An earlier stream has the address and VLAN identifier.

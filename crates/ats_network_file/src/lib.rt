@@ -6,6 +6,7 @@ mod flows;
 mod kept_routes;
 mod kept_steps;
 pub mod laws;
+mod link_local;
 mod nodes;
 pub mod reading;
 mod routes;
@@ -14,4 +15,4 @@ mod streams;
 
 pub use fault::NetFault;
 pub use reading::read_network;
-pub use senders::SenderTable;
+pub use senders::{Place, SenderTable};

@@ -1,47 +1,54 @@
 //! Routes of streams and flows through a topology.
 
-ghost use Rattle.std.specs.Prelude.{◌≡◌, ◌↔◌, ℕ, List, All, map, IsTrue, IfOk, IfSome};
-ghost use Rattle.ats_route_tree.specs.LegsView.{legs_view, paths_view};
+ghost use Rattle.std.specs.Prelude.{◌≡◌, ◌↔◌, ℕ, List, [], ◌∷◌, All, map, IsTrue, IfOk, IfSome};
+ghost use Rattle.ats_route_tree.specs.LegsView.{legs_view, paths_view, routes_in};
 ghost use Rattle.ats_streams.specs.Branches.{AreBranches};
 ghost use Rattle.std.specs.Global.{Vec};
+ghost use Rattle.std.specs.List.{list_all};
 ghost use Rattle.std.specs.Option.{option_map};
 ghost use Rattle.ats_topology.specs.KeptWalks.{AreKeptFor};
 ghost use Rattle.ats_network_file.specs.KeptRoutes.{IsKeptFor};
+ghost use Rattle.ats_network.specs.Ends.{joins_stations};
 ghost use Rattle.ats_network.specs.Path.{IsTree, IsValidPath};
 ghost use Rattle.ats_network_toml.specs.Views.{route_view, routes_view};
 ghost use Rattle.ats_network_toml.specs.Document as file;
 ghost use Rattle.ats_num.specs.Failure.{GivesSeen};
-ghost use Rattle.ats_network_file.specs.Routes.{ports_of, ports_onward, is_valid, legs_of, path_of, paths_of};
+ghost use Rattle.ats_network_file.specs.Routes.{ports_of, ports_onward, is_valid, legs_of, may_declare, path_of};
+ghost use Rattle.ats_network_file.specs.Routes.{paths_of};
 ghost use Rattle.ats_network_file.specs.KeptSteps.{AreSteps};
 ghost use Rattle.ats_network_file.specs.Senders.{legs_in, path_in};
 
 use crate::fault::NetFault;
 use crate::kept_routes::KeptRoutes;
 use crate::kept_steps::KeptSteps;
-use crate::senders::SenderTable;
-use ats_network::{is_valid_path, shortest_kept};
+use crate::senders::Place;
+use ats_network::{is_valid_path, joins_stations, shortest_kept};
+use ats_network_table::Format;
 use ats_network_toml::{Route, Routes};
 use ats_num::{Failure, Name};
 use ats_route_tree::{Legs, legs_of};
 use ats_topology::{KeptWalks, Topology};
 use std::alloc::{AllocError, Global};
 
-/// The ports of the route of a flow's entry, or `BadPath` where they make no valid path.
+/// The ports of the route of a flow's entry, or `BadPath` where they make no valid path that a file of
+/// this format may declare.
 pub(crate) fn path_in(
     alloc: Global,
+    format: Format,
     topology: &Topology,
     kept: &mut KeptRoutes,
-    entry: u32,
+    place: Place,
     route: &Route,
 ) -> Result<Vec<u32>, Failure<NetFault>>
     requires kept { IsKeptFor topology.now kept.old }
-    ensures value { GivesSeen (λ path. path.items) result (path_in topology.now entry (route_view route.now)) }
+    ensures value { GivesSeen (λ path. path.items) result (path_in format topology.now place
+        (route_view route.now)) }
     ensures valid { IfOk result (λ path. IsValidPath topology.now path.items) }
     ensures kept { IsKeptFor topology.now kept.new }
 {
     let fault = NetFault::BadPath {
-        table: SenderTable::Flow,
-        entry,
+        table: place.table,
+        entry: place.number,
     };
     let Some(path) = ports_of(alloc, topology, kept, route)? else {
         return Err(Failure::Fault(fault));
@@ -49,33 +56,80 @@ pub(crate) fn path_in(
     if !is_valid(topology, &path) {
         return Err(Failure::Fault(fault));
     }
+    if !may_declare_one(format, topology, &path) {
+        return Err(Failure::Fault(fault));
+    }
     Ok(path)
 }
 
-/// The legs of the tree that has the routes of an entry, or `BadPath` where none has them.
+/// The legs of the tree that has the routes of an entry, or `BadPath` where none has them, or where a
+/// file of this format may not declare them.
 pub(crate) fn legs_in(
     alloc: Global,
+    format: Format,
     topology: &Topology,
     kept: &mut KeptRoutes,
-    entry: u32,
+    place: Place,
     routes: &Routes,
 ) -> Result<Legs, Failure<NetFault>>
     requires kept { IsKeptFor topology.now kept.old }
-    ensures value { GivesSeen legs_view result (legs_in topology.now entry (routes_view routes.now)) }
+    ensures value { GivesSeen legs_view result (legs_in format topology.now place
+        (routes_view routes.now)) }
     ensures branches { IfOk result (λ legs. AreBranches legs.ports.items legs.branches.items) }
     ensures tree { IfOk result (λ legs. IsTree topology.now legs.ports.items legs.branches.items) }
     ensures kept { IsKeptFor topology.now kept.new }
 {
     let fault = NetFault::BadPath {
-        table: SenderTable::Stream,
-        entry,
+        table: place.table,
+        entry: place.number,
     };
     let Some(paths) = paths_of(alloc, topology, kept, routes)? else {
         return Err(Failure::Fault(fault));
     };
-    match legs_of(alloc, topology, &paths)? {
-        Some(legs) => Ok(legs),
-        None => Err(Failure::Fault(fault)),
+    let Some(legs) = legs_of(alloc, topology, &paths)? else {
+        return Err(Failure::Fault(fault));
+    };
+    if !may_declare(format, topology, &paths) {
+        return Err(Failure::Fault(fault));
+    }
+    Ok(legs)
+}
+
+// Whether a file of this format may declare these routes: in format 3 they begin and end at any nodes,
+// and before at stations.
+fn may_declare(format: Format, topology: &Topology, paths: &[Vec<u32>]) -> bool
+    requires { All (IsValidPath topology.now) (routes_in paths.now) }
+    ensures { result ≡ may_declare format topology.now (routes_in paths.now) }
+{
+    match format {
+        Format::One => all_join_stations(topology, paths),
+        Format::Two => all_join_stations(topology, paths),
+        Format::Three => true,
+    }
+}
+
+// Whether these routes begin and end at stations.
+fn all_join_stations(topology: &Topology, paths: &[Vec<u32>]) -> bool
+    requires { All (IsValidPath topology.now) (routes_in paths.now) }
+    ensures { result ≡ list_all (joins_stations topology.now) (routes_in paths.now) }
+{
+    for path in paths {
+        if !joins_stations(topology, path) {
+            return false;
+        }
+    }
+    true
+}
+
+// The same of one route.
+fn may_declare_one(format: Format, topology: &Topology, path: &[u32]) -> bool
+    requires { IsValidPath topology.now path.now }
+    ensures { result ≡ may_declare format topology.now (path.now ∷ []) }
+{
+    match format {
+        Format::One => joins_stations(topology, path),
+        Format::Two => joins_stations(topology, path),
+        Format::Three => true,
     }
 }
 

@@ -1,20 +1,25 @@
 //! The streams that a network file declares.
 
-ghost use Rattle.std.specs.Prelude.{◌≡◌, IfOk};
+ghost use Rattle.std.specs.Prelude.{◌≡◌, ◌≤◌, IfOk};
 ghost use Rattle.ats_streams.specs.Branches.{AreBranches};
 ghost use Rattle.ats_route_tree.specs.LegsView.{legs_view};
-ghost use Rattle.ats_num.specs.Failure.{Gives};
+ghost use Rattle.ats_num.specs.Failure.{Gives, unless};
+ghost use Rattle.ats_streams.specs.Stream.{stream_fault};
+ghost use Rattle.ats_streams.specs.declared.path.TheConstants.{MAX_PORTS};
+ghost use Rattle.ats_network.specs.Network.{HasShortRoutes};
 ghost use Rattle.ats_network_file.specs.Senders.{stream_over, stream_made};
+ghost use Rattle.ats_network_file.specs.declared.fault.NetFault.TheVariants.{Sender};
 
 use crate::fault::NetFault;
 use crate::kept_routes::KeptRoutes;
 use crate::routes::legs_in;
-use crate::senders::{SenderEntry, SenderTable, broken, refused};
+use crate::senders::{Place, SenderEntry, broken, refused};
 use ats_network::Network;
+use ats_network_table::Format;
 use ats_network_toml::StreamEntry;
 use ats_num::Failure;
 use ats_route_tree::Legs;
-use ats_streams::Stream;
+use ats_streams::{Stream, StreamFault};
 use std::alloc::Global;
 
 impl SenderEntry for StreamEntry {
@@ -25,28 +30,54 @@ impl SenderEntry for StreamEntry {
     fn add(
         &self,
         alloc: Global,
+        format: Format,
         network: &mut Network,
         kept: &mut KeptRoutes,
-        number: u32,
+        place: Place,
     ) -> Result<(), Failure<NetFault>> {
-        let legs = legs_in(alloc, network.topology(), kept, number, &self.routes)?;
-        let stream = stream_over(alloc, legs, number, self)?;
+        let legs = legs_in(alloc, format, network.topology(), kept, place, &self.routes)?;
+        let stream = stream_over(alloc, legs, network.most_ports(), place, self)?;
         match network.push_stream(stream) {
             Ok(()) => Ok(()),
-            Err(failure) => Err(refused(SenderTable::Stream, number, failure)),
+            Err(failure) => Err(refused(place, failure)),
         }
     }
 }
 
-// The stream of an entry over legs.
+// The stream of an entry over legs, where a route may have so many ports.
 fn stream_over(
     alloc: Global,
     legs: Legs,
-    number: u32,
+    most: u32,
+    place: Place,
+    entry: &StreamEntry,
+) -> Result<Stream, Failure<NetFault>>
+    requires branches { AreBranches legs.ports.items legs.branches.items }
+    requires most { most ≤ MAX_PORTS }
+    ensures value { Gives result (stream_made most place entry.now (stream_over (legs_view legs) entry.now)) }
+    ensures ports { IfOk result (λ stream. stream.ports ≡ legs.ports.items) }
+    ensures branches { IfOk result (λ stream. stream.branches ≡ legs.branches.items) }
+    ensures short { IfOk result (HasShortRoutes most) }
+{
+    let stream = stream_of(alloc, legs, place, entry)?;
+    if stream.has_short_routes(most) {
+        Ok(stream)
+    } else {
+        Err(Failure::Fault(broken(place, StreamFault::Limit)))
+    }
+}
+
+// The same, where a route may have as many ports as that of any stream.
+fn stream_of(
+    alloc: Global,
+    legs: Legs,
+    place: Place,
     entry: &StreamEntry,
 ) -> Result<Stream, Failure<NetFault>>
     requires { AreBranches legs.ports.items legs.branches.items }
-    ensures value { Gives result (stream_made number entry.now (stream_over (legs_view legs) entry.now)) }
+    ensures value { Gives result (unless (Sender place.table place.number)
+        (stream_fault entry.now.classes (stream_over (legs_view legs) entry.now))
+        (stream_over (legs_view legs) entry.now)) }
     ensures ports { IfOk result (λ stream. stream.ports ≡ legs.ports.items) }
     ensures branches { IfOk result (λ stream. stream.branches ≡ legs.branches.items) }
 {
@@ -65,11 +96,7 @@ fn stream_over(
     );
     match made {
         Ok(stream) => Ok(stream),
-        Err(Failure::Fault(fault)) => Err(Failure::Fault(broken(
-            SenderTable::Stream,
-            number,
-            fault,
-        ))),
+        Err(Failure::Fault(fault)) => Err(Failure::Fault(broken(place, fault))),
         Err(Failure::NoMemory) => Err(Failure::NoMemory),
     }
 }

@@ -3,11 +3,15 @@ use Rattle.std.proofs.Common.{◌≡◌, ◌∙◌, ℕ, ◌<◌, Bool, true, fa
 use Rattle.std.proofs.Common.{Some, None, Result, refl, sym, ap}
 use Rattle.std.specs.Prelude.{not, ◌&&◌, find, is_some, option_and_then, option_map}
 use Rattle.std.specs.Option.{option_or}
-use Rattle.std.proofs.lemmas.Bool.{false≢true}
+use Rattle.std.specs.Str.{bytes_eq}
+use Rattle.std.proofs.lemmas.Bool.{false≢true, or_parts}
 use Rattle.std.proofs.lemmas.List.Elements.{All-get_or}
-use Rattle.toml.specs.Data.{Data, get_member}
+use Rattle.toml.specs.Data.{Data, Members, get_member, member, no_members}
+use Rattle.ats_facts.proofs.Bytes.{bytes_eq-true}
 use Rattle.ats_num.specs.Failure.{◌>>=◌, ok_where, or_fault}
-use Rattle.ats_network_table.specs.Walk.{Entry, at, formed, has, has_unknown, is_missing, missing_key, none_missing}
+use Rattle.ats_network_table.proofs.Places.{get_first}
+use Rattle.ats_network_table.specs.Walk.{Entry, at, formed, has, has_unknown, is_known, is_missing, missing_key}
+use Rattle.ats_network_table.specs.Walk.{none_missing}
 use Rattle.ats_network_table.specs.Walk.{wrong_kind}
 use Rattle.ats_network_table.specs.Words.{key_text}
 use Rattle.ats_network_table.specs.declared.key.Key.{Key}
@@ -74,13 +78,18 @@ found_key kind test (k ∷ ks) = by (test k) (found_key kind test ks)
     by true rest = refl
     by false rest = rest
 
+-- a table without a missing key has each of its keys, and no other
+pub record IsFormed (e : Entry) : Type 0 where
+  pub complete : IsComplete e
+  pub known : has_unknown (keys_in e) e.members ≡ false
+
 -- a table is formed, or has one of the first two faults
-pub formed_told : (e : Entry) → Told (λ (u : Unit {0}). IsComplete e) (form_fault e) (formed e)
+pub formed_told : (e : Entry) → Told (λ (u : Unit {0}). IsFormed e) (form_fault e) (formed e)
 formed_told e =
-    chained (λ (u : Unit {0}). IsComplete e) (λ (u : Unit {0}). IsComplete e) (missing_fault e) (unknown_fault e)
+    chained (λ (u : Unit {0}). IsComplete e) (λ (u : Unit {0}). IsFormed e) (missing_fault e) (unknown_fault e)
     (none_missing e (missing_key e))
     (λ u. ok_where (not (has_unknown (keys_in e) e.members)) (Unknown e.table e.number) u)
-    (by (missing_key e) refl) (λ u complete. known (has_unknown (keys_in e) e.members) u complete)
+    (by (missing_key e) refl) (λ u complete. known (has_unknown (keys_in e) e.members) refl u complete)
   where
     by : (o : Option Key) → missing_key e ≡ o
         → Told (λ (u : Unit {0}). IsComplete e) (missing_fault e) (none_missing e o)
@@ -92,11 +101,26 @@ formed_told e =
     by (Some k) h =
         found_key (Missing e.table e.number) (is_missing e) (keys_in e) ∙ ap (option_map (Missing e.table e.number)) h
 
-    known : (b : Bool) (u : Unit {0}) → IsComplete e
-        → Told (λ (v : Unit {0}). IsComplete e) (cond b (Some (Unknown e.table e.number)) None)
+    known : (b : Bool) → has_unknown (keys_in e) e.members ≡ b → (u : Unit {0}) → IsComplete e
+        → Told (λ (v : Unit {0}). IsFormed e) (cond b (Some (Unknown e.table e.number)) None)
         (ok_where (not b) (Unknown e.table e.number) u)
-    known true u complete = refl
-    known false u complete = (refl, complete)
+    known true h u complete = refl
+    known false h u complete = (refl, record { complete = complete; known = h })
+
+-- of a formed table no key stands there that is none of its keys
+pub not_there : (ks : List Key) (k : Key) (ms : Members) → is_known ks (key_text k) ≡ false
+    → has_unknown ks ms ≡ false → get_member (key_text k) ms ≡ None
+not_there ks k no_members other known = refl
+not_there ks k (member text d ms) other known =
+    let parts : (not (is_known ks text) ≡ false) × (has_unknown ks ms ≡ false) =
+    or_parts (not (is_known ks text)) (has_unknown ks ms) known in
+    get_first (key_text k) text d ms ∙ by (bytes_eq (key_text k) text) refl parts.0 (not_there ks k ms other parts.1)
+  where
+    by : (same : Bool) → bytes_eq (key_text k) text ≡ same → not (is_known ks text) ≡ false
+        → get_member (key_text k) ms ≡ None → cond same (Some d) (get_member (key_text k) ms) ≡ None
+    by true e h rest =
+        absurd (false≢true (sym h ∙ ap not (ap (is_known ks) (sym (bytes_eq-true (key_text k) text e)) ∙ other)))
+    by false e h rest = rest
 
 -- of a complete table the key at a place is not missing
 pub not_missing : (e : Entry) (i : ℕ) → IsComplete e → i < length (keys_in e)

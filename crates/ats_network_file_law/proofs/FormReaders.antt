@@ -18,8 +18,8 @@ use Rattle.ats_network_toml.specs.declared.entries.BridgeEntry.{BridgeEntry}
 use Rattle.ats_network_toml.specs.declared.entries.LinkEntry.{LinkEntry}
 use Rattle.ats_network_file_law.specs.FormFaults.{IsComplete, is_kind, is_right, keys_in, short_in}
 use Rattle.ats_network_file_law.proofs.FormFirsts.{form_fault, table_fault, wrongs}
-use Rattle.ats_network_file_law.proofs.FormKeys.{Any, absent, formed_told, leaf, not_missing, stands, value_at}
-use Rattle.ats_network_file_law.proofs.FormKeys.{wrong}
+use Rattle.ats_network_file_law.proofs.FormKeys.{Any, IsFormed, absent, formed_told, leaf, not_missing, stands}
+use Rattle.ats_network_file_law.proofs.FormKeys.{value_at, wrong}
 use Rattle.ats_network_file_law.proofs.Told.{Told, chained, same_faults}
 
 -- a table of an array
@@ -54,8 +54,8 @@ pub table_told : {A : Type 0} (e : Entry) (read : Unit {0} → Result A Document
     → ((u : Unit {0}) → IsComplete e → Told (λ (x : A). Any x) (wrongs e (keys_in e)) (read u))
     → Told (λ (x : A). Any x) (table_fault e) (formed e >>= read)
 table_told {A} e read next =
-    chained (λ (u : Unit {0}). IsComplete e) (λ (x : A). Any x) (form_fault e) (wrongs e (keys_in e)) (formed e) read
-    (formed_told e) next
+    chained (λ (u : Unit {0}). IsFormed e) (λ (x : A). Any x) (form_fault e) (wrongs e (keys_in e)) (formed e) read
+    (formed_told e) (λ u formed. next u formed.complete)
 
 pub station_told : (f : Format) (n : ℕ) (ms : Members)
     → Told (λ (x : StationEntry). Any x) (table_fault (entry_of f Station n ms)) (station_in (entry_of f Station n ms))

@@ -8,23 +8,26 @@ use Rattle.std.proofs.lemmas.Bool.{false≢true}
 use Rattle.std.proofs.lemmas.List.Elements.{All-get_or, All-head, All-tail}
 use Rattle.toml.specs.Data.{Members}
 use Rattle.ats_num.specs.Failure.{◌>>=◌, ok_where}
-use Rattle.ats_network_table.specs.Kinds.{address_in, list_in, long_in, name_in, whole_in}
+use Rattle.ats_network_table.specs.Kinds.{address_in, list_in, long_in, name_in, short_name_in, whole_in}
 use Rattle.ats_network_table.specs.Walk.{Entry, at, classes_at, deadline_at, formed, has, identity_at, is_missing}
-use Rattle.ats_network_table.specs.Walk.{long_at, may_branch, name_at, whole_at, wrong_kind}
+use Rattle.ats_network_table.specs.Walk.{lists_classes, long_at, may_branch, name_at, short_name_at, whole_at}
+use Rattle.ats_network_table.specs.Walk.{wrong_kind}
 use Rattle.ats_network_table.specs.declared.format.Format.{Format}
 use Rattle.ats_network_table.specs.declared.format.Format.TheVariants.{One, Two, Three}
-use Rattle.ats_network_table.specs.declared.table.Table.TheVariants.{Flow, Stream}
+use Rattle.ats_network_table.specs.declared.table.Table.TheVariants.{Flow, LinkLocal, LinkLocalFlow, Stream}
 use Rattle.ats_network_table.specs.declared.key.Key.{Key}
 use Rattle.ats_network_table.specs.declared.key.Key.TheVariants as key
 use Rattle.ats_network_table.specs.declared.fault.DocumentFault.{DocumentFault}
 use Rattle.ats_network_toml.specs.Document as file
-use Rattle.ats_network_toml.specs.Entries.{flow_in, numbers_in, route_at, routes_at, stream_in}
-use Rattle.ats_network_file_law.specs.FormFaults.{IsComplete, is_kind, keys_in}
+use Rattle.ats_network_toml.specs.Entries.{flow_in, link_local_flow_in, link_local_in, numbers_in, route_at, routes_at}
+use Rattle.ats_network_toml.specs.Entries.{stream_in}
+use Rattle.ats_network_toml.specs.declared.entries.StreamNumbers.{StreamNumbers}
+use Rattle.ats_network_file_law.specs.FormFaults.{IsComplete, is_kind, is_right, keys_in}
 use Rattle.ats_network_file_law.proofs.FormFirsts.{table_fault, wrongs}
 use Rattle.ats_network_file_law.proofs.FormKeys.{Any, absent, chained_keys, leaf, not_missing, stands, value_at, wrong}
 use Rattle.ats_network_file_law.proofs.FormReaders.{entry_of, next_key, skip_key, table_told}
 use Rattle.ats_network_file_law.proofs.FormRoutes.{route_keys, route_told, routes_keys, routes_told}
-use Rattle.ats_network_file_law.proofs.Told.{Told, chained, same_faults, weaker}
+use Rattle.ats_network_file_law.proofs.Told.{Told, chained, made, same_faults, weaker}
 
 -- one class, beside which no others may stand
 abbrev one_class : Entry → Result (List ℕ) DocumentFault
@@ -88,6 +91,10 @@ classes_told : (e : Entry) → is_missing e key.Class ≡ false
     → Told (λ (x : List ℕ). Any x) (wrongs e class_keys) (classes_at e)
 classes_told e due = by (has e key.Class) refl (has e key.Classes) refl
   where
+    none : (b : Bool) → (b && false) ≡ false
+    none true = refl
+    none false = refl
+
     read : Bool → Result (List ℕ) DocumentFault
     read b = cond b (one_class e) (at e key.Classes (list_in long_in))
 
@@ -98,7 +105,8 @@ classes_told e due = by (has e key.Class) refl (has e key.Classes) refl
     by false h true g =
         subst (λ (c : Bool). Told (λ (x : List ℕ). Any x) (wrongs e class_keys) (read c)) (sym h) (list_told e h g)
     by false h false g =
-        absurd (false≢true (sym due ∙ ap (λ c. not c && not (has e key.Class)) g ∙ ap not h))
+        absurd (false≢true (sym due ∙ ap (λ c. not (lists_classes e.table && c) && not (has e key.Class)) g
+        ∙ ap (λ c. not c && not (has e key.Class)) (none (lists_classes e.table)) ∙ ap not h))
 
 -- a deadline may be absent
 deadline_told : (e : Entry) → Told (λ (x : ℕ). Any x) (wrong e key.DeadlineNs) (deadline_at e)
@@ -141,6 +149,18 @@ numbers_by {N} e read last is rate burst least most =
     (λ m. deadline_at e >>= λ d. Ok (last r b l m d)) most refl
     (λ m is. chained (λ (x : ℕ). Any x) G (wrong e key.DeadlineNs) None (deadline_at e)
     (λ d. Ok (last r b l m d)) (deadline_told e) (λ d is. (refl, tt)))))))
+
+-- the numbers of a stream's table, or of one for each port
+numbers_told : (e : Entry) → has e key.RateBps ≡ true → has e key.BurstBits ≡ true → has e key.MinOctets ≡ true
+    → has e key.MaxOctets ≡ true → Told (λ (x : StreamNumbers). Any x) (wrongs e number_keys) (numbers_in e)
+numbers_told e rate burst least most =
+    numbers_by e (numbers_in e) (λ r b l m d. record {
+      rate_bps = r;
+      burst_bits = b;
+      min_octets = l;
+      max_octets = m;
+      deadline_ns = d;
+    }) refl rate burst least most
 
 abbrev identity_keys : List Key
 identity_keys = key.Address ∷ key.Vlan ∷ []
@@ -231,6 +251,7 @@ whole_several e all =
 
 -- which keys a stream's table has in a format, and what is not missing where it is complete
 record IsOf (e : Entry) : Type 0 where
+  name : is_right e key.Name ≡ is_kind name_in e key.Name
   several : Bool
   may : may_branch e.format e.table ≡ several
   keys : keys_in e ≡ stream_keys several
@@ -238,25 +259,47 @@ record IsOf (e : Entry) : Type 0 where
 
 of_format : (f : Format) (n : ℕ) (ms : Members) → IsOf (entry_of f Stream n ms)
 of_format One n ms =
-    record { several = false; may = refl; keys = refl; whole = λ c. whole_alone (entry_of One Stream n ms) c }
+    record {
+      name = refl;
+      several = false;
+      may = refl;
+      keys = refl;
+      whole = λ c. whole_alone
+          (entry_of One Stream n ms) c;
+    }
 of_format Two n ms =
-    record { several = false; may = refl; keys = refl; whole = λ c. whole_alone (entry_of Two Stream n ms) c }
+    record {
+      name = refl;
+      several = false;
+      may = refl;
+      keys = refl;
+      whole = λ c. whole_alone
+          (entry_of Two Stream n ms) c;
+    }
 of_format Three n ms =
-    record { several = true; may = refl; keys = refl; whole = λ c. whole_several (entry_of Three Stream n ms) c }
+    record {
+      name = refl;
+      several = true;
+      may = refl;
+      keys = refl;
+      whole = λ c. whole_several
+          (entry_of Three Stream n ms) c;
+    }
 
 -- the keys of a stream, whose numbers are read as one
 keys_told : {N : Type 0} (e : Entry) (several : Bool) (numbers : Result N DocumentFault)
     (last : List ℕ → List file.DeclaredRoute → List ℕ → N → Option (ℕ × ℕ) → file.DeclaredStream)
-    → may_branch e.format e.table ≡ several → IsWhole e → Told (λ (x : N). Any x) (wrongs e number_keys) numbers
+    → is_right e key.Name ≡ is_kind name_in e key.Name → may_branch e.format e.table ≡ several → IsWhole e
+    → Told (λ (x : N). Any x) (wrongs e number_keys) numbers
     → Told (λ (x : file.DeclaredStream). Any x) (wrongs e (stream_keys several))
     (name_at e key.Name >>= λ name. routes_at e >>= λ routes. classes_at e >>= λ classes.
     numbers >>= λ m. identity_at e >>= λ identity. Ok (last name routes classes m identity))
-keys_told {N} e several numbers last may w told =
+keys_told {N} e several numbers last named may w told =
     let G : file.DeclaredStream → Type 0 = λ x. Any x in
     next_key e key.Name (routes_keys several ++ behind_routes) name_in G
     (λ name. routes_at e >>= λ routes. classes_at e >>= λ classes.
     numbers >>= λ m. identity_at e >>= λ identity. Ok (last name routes classes m identity))
-    (stands (has e key.Name) w.name) refl
+    (stands (has e key.Name) w.name) named
     (λ name is. chained_keys e (λ (x : List file.DeclaredRoute). Any x) G (routes_keys several) behind_routes
     (routes_at e) (λ routes. classes_at e >>= λ classes. numbers >>= λ m. identity_at e
     >>= λ identity. Ok (last name routes classes m identity))
@@ -285,7 +328,7 @@ stream_by {N} e numbers last of told =
     numbers >>= λ m. identity_at e >>= λ identity. Ok (last name routes classes m identity) in
     table_told e (λ u. read)
     (λ u c. subst (λ (ks : List Key). Told (λ (x : file.DeclaredStream). Any x) (wrongs e ks) read) (sym of.keys)
-    (keys_told e of.several numbers last of.may (of.whole c) (told (of.whole c))))
+    (keys_told e of.several numbers last of.name of.may (of.whole c) (told (of.whole c))))
 
 pub stream_told : (f : Format) (n : ℕ) (ms : Members)
     → Told (λ (x : file.DeclaredStream). Any x) (table_fault (entry_of f Stream n ms))
@@ -303,16 +346,54 @@ stream_told f n ms =
       deadline_ns = m.deadline_ns;
       identity = identity;
     }) (of_format f n ms)
-    (λ w. numbers_by e (numbers_in e) (λ r b l m d. record {
-      rate_bps = r;
-      burst_bits = b;
-      min_octets = l;
-      max_octets = m;
-      deadline_ns = d;
-    }) refl (stands (has e key.RateBps) (behind_missing e w 2 (omega arith)))
+    (λ w. numbers_told e (stands (has e key.RateBps) (behind_missing e w 2 (omega arith)))
     (stands (has e key.BurstBits) (behind_missing e w 3 (omega arith)))
     (stands (has e key.MinOctets) (behind_missing e w 4 (omega arith)))
     (stands (has e key.MaxOctets) (behind_missing e w 5 (omega arith))))
+
+pub link_local_told : (f : Format) (n : ℕ) (ms : Members)
+    → Told (λ (x : file.DeclaredLinkLocal). Any x) (table_fault (entry_of f LinkLocal n ms))
+    (link_local_in (entry_of f LinkLocal n ms))
+link_local_told f n ms =
+    let e : Entry = entry_of f LinkLocal n ms in
+    let G : file.DeclaredLinkLocal → Type 0 = λ x. Any x in
+    let last : List ℕ → ℕ → StreamNumbers → file.DeclaredLinkLocal = λ name class m. record {
+      name = name;
+      class = class;
+      rate_bps = m.rate_bps;
+      burst_bits = m.burst_bits;
+      min_octets = m.min_octets;
+      max_octets = m.max_octets;
+      deadline_ns = m.deadline_ns;
+    } in
+    table_told e (λ u. short_name_at e key.Name >>= λ name. long_at e key.Class >>= λ class. numbers_in e
+    >>= λ m. Ok (last name class m))
+    (λ u c. next_key e key.Name (key.Class ∷ number_keys) short_name_in G
+    (λ name. long_at e key.Class >>= λ class. numbers_in e >>= λ m. Ok (last name class m))
+    (stands (has e key.Name) (not_missing e 0 c (omega arith))) refl
+    (λ name is. next_key e key.Class number_keys long_in G
+    (λ class. numbers_in e >>= λ m. Ok (last name class m))
+    (stands (has e key.Class) (not_missing e 1 c (omega arith))) refl
+    (λ class is. made (λ (x : StreamNumbers). Any x) G (wrongs e number_keys) (numbers_in e) (λ m. last name class m)
+    (numbers_told e (stands (has e key.RateBps) (not_missing e 2 c (omega arith)))
+    (stands (has e key.BurstBits) (not_missing e 3 c (omega arith)))
+    (stands (has e key.MinOctets) (not_missing e 4 c (omega arith)))
+    (stands (has e key.MaxOctets) (not_missing e 5 c (omega arith)))) (λ m known. tt))))
+
+pub link_local_flow_told : (f : Format) (n : ℕ) (ms : Members)
+    → Told (λ (x : file.DeclaredLinkLocalFlow). Any x) (table_fault (entry_of f LinkLocalFlow n ms))
+    (link_local_flow_in (entry_of f LinkLocalFlow n ms))
+link_local_flow_told f n ms =
+    let e : Entry = entry_of f LinkLocalFlow n ms in
+    let G : file.DeclaredLinkLocalFlow → Type 0 = λ x. Any x in
+    let last : List ℕ → ℕ → Result file.DeclaredLinkLocalFlow DocumentFault =
+    λ name most. Ok (record { name = name; max_octets = most }) in
+    table_told e (λ u. short_name_at e key.Name >>= λ name. long_at e key.MaxOctets >>= λ most. last name most)
+    (λ u c. next_key e key.Name (key.MaxOctets ∷ []) short_name_in G
+    (λ name. long_at e key.MaxOctets >>= λ most. last name most)
+    (stands (has e key.Name) (not_missing e 0 c (omega arith))) refl
+    (λ name is. next_key e key.MaxOctets [] long_in G (λ most. last name most)
+    (stands (has e key.MaxOctets) (not_missing e 1 c (omega arith))) refl (λ most is. (refl, tt))))
 
 -- a flow has one listener, in each format
 flow_alone : (f : Format) → may_branch f Flow ≡ false

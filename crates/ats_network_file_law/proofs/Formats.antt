@@ -1,4 +1,4 @@
--- A text of format 3 that says nothing new declares what it does in format 2.
+-- A text of format 3 that says nothing new declares, but for the format, what it does in format 2.
 use Rattle.std.proofs.Common.{◌≡◌, ◌∙◌, ℕ, ◌+◌, ◌-◌, Bool, true, false, cond, List, [], ◌∷◌, length, Option, Some, None}
 use Rattle.std.proofs.Common.{Result, Ok, Err, refl, sym, ap, subst}
 use Rattle.std.specs.Prelude.{not, ◌&&◌, ◌||◌, pos, nat_le, nat_lt, is_some, find, map, option_and_then, unwrap_or}
@@ -16,7 +16,7 @@ use Rattle.ats_network_table.specs.Walk.{Entry, classes_at, format_at, format_of
 use Rattle.ats_network_table.specs.Walk.{has_unknown}
 use Rattle.ats_network_table.specs.Walk.{identity_at, is_known, is_missing, listeners_at, missing_key, name_at}
 use Rattle.ats_network_table.specs.Walk.{none_missing, path_at, paths_at}
-use Rattle.ats_network_table.specs.Words.{key_text, keys_behind_routes, keys_of}
+use Rattle.ats_network_table.specs.Words.{key_text, keys_behind_routes, keys_of, top_keys}
 use Rattle.ats_network_table.specs.declared.format.Format.{Format}
 use Rattle.ats_network_table.specs.declared.format.Format.TheVariants.{Three, Two}
 use Rattle.ats_network_table.specs.declared.key.Key.{Key}
@@ -24,12 +24,15 @@ use Rattle.ats_network_table.specs.declared.key.Key.TheVariants as key
 use Rattle.ats_network_table.specs.declared.fault.DocumentFault.{DocumentFault}
 use Rattle.ats_network_table.specs.declared.fault.DocumentFault.TheVariants.{Limit, NotToml, Unknown, WrongKind}
 use Rattle.ats_network_table.specs.declared.table.Table.{Table}
-use Rattle.ats_network_table.specs.declared.table.Table.TheVariants.{Bridge, Flow, Link, Station, Stream, Top}
+use Rattle.ats_network_table.specs.declared.table.Table.TheVariants.{Bridge, Flow, Link, LinkLocal, LinkLocalFlow}
+use Rattle.ats_network_table.specs.declared.table.Table.TheVariants.{Station}
+use Rattle.ats_network_table.specs.declared.table.Table.TheVariants.{Stream, Top}
 use Rattle.ats_network_table.proofs.Places.{get_first}
 use Rattle.ats_network_toml.specs.Document as file
-use Rattle.ats_network_toml.specs.Entries.{bridge_in, flow_in, link_in, numbers_in, routes_at, station_in, stream_in}
-use Rattle.ats_network_toml.specs.Reading.{arrays_read, document_in, entries_from, entries_in, tables_at}
-use Rattle.ats_network_toml.specs.Reading.{tables_in}
+use Rattle.ats_network_toml.specs.Entries.{bridge_in, flow_in, link_in, link_local_flow_in, link_local_in, numbers_in}
+use Rattle.ats_network_toml.specs.Entries.{routes_at, station_in, stream_in}
+use Rattle.ats_network_toml.specs.Reading.{arrays_in, arrays_read, document_in, entries_from, entries_in}
+use Rattle.ats_network_toml.specs.Reading.{entries_within, senders_for, tables_at, tables_in}
 use Rattle.ats_network_file_law.specs.FormFaults.{tables_told, top_of}
 use Rattle.ats_network_file_law.specs.Formats.{FormatThreeIsFormatTwo, SaysNothingNew, with_format}
 use Rattle.ats_network_file_law.proofs.FormReaders.{entry_of}
@@ -85,9 +88,13 @@ find_same t u (k ∷ ks) same =
     ap (λ (b : Bool). cond b (Some k) (find t ks)) (All-head (λ (l : Key). t l ≡ u l) k ks same)
     ∙ ap (λ (o : Option Key). cond (u k) (Some k) o) (find_same t u ks (All-tail (λ (l : Key). t l ≡ u l) k ks same))
 
+-- a top table, read in some format
+abbrev top_in : Format → Members → Entry
+top_in format tree = record { format = format; table = Top; number = 0; members = tree }
+
 -- what the top table has
 record IsTop (tree : Members) : Type 0 where
-  has_format : has (top_of (with_format 2 tree)) key.Format ≡ has (top_of tree) key.Format
+  has_format : has (top_in Two (with_format 2 tree)) key.Format ≡ has (top_in Three tree) key.Format
   others : (k : Key) → bytes_eq (key_text key.Format) (key_text k) ≡ false
       → get_member (key_text k) (with_format 2 tree) ≡ get_member (key_text k) tree
 
@@ -98,29 +105,74 @@ is_top tree three = record {
   others = λ k other. get_other 2 (key_text k) tree other;
 }
 
-formed_same : (tree : Members) → IsTop tree → formed (top_of (with_format 2 tree)) ≡ formed (top_of tree)
-formed_same tree is =
-    let two : Entry = top_of (with_format 2 tree) in
-    let three : Entry = top_of tree in
-    let P : Key → Type 0 = λ k. is_missing two k ≡ is_missing three k in
+-- a key that does not stand there is the text of no member
+other_text : (text own : List ℕ) (d : Data) (ms : Members) → get_member text (member own d ms) ≡ None
+    → (bytes_eq text own ≡ false) × (get_member text ms ≡ None)
+other_text text own d ms none = by (bytes_eq text own) refl (sym (get_first text own d ms) ∙ none)
+  where
+    by : (b : Bool) → bytes_eq text own ≡ b → cond b (Some d) (get_member text ms) ≡ None
+        → (bytes_eq text own ≡ false) × (get_member text ms ≡ None)
+    by true e h = absurd (none-some d (sym h))
+    by false e h = (e, h)
+
+flipped : (own text : List ℕ) → bytes_eq own text ≡ false → bytes_eq text own ≡ false
+flipped own text h = by (bytes_eq text own) refl
+  where
+    by : (b : Bool) → bytes_eq text own ≡ b → bytes_eq text own ≡ false
+    by false e = e
+    by true e =
+        let same : text ≡ own = bytes_eq-true text own e in
+        let back : bytes_eq own own ≡ true =
+        sym (ap (λ (t : List ℕ). bytes_eq t own) same) ∙ e in
+        let forth : bytes_eq own own ≡ false =
+        sym (ap (λ (t : List ℕ). bytes_eq own t) same) ∙ h in
+        absurd (true≢false (sym back ∙ forth))
+
+-- no key is unknown for want of the tables for each port
+top_unknown : (ms : Members) → get_member (key_text key.LinkLocal) ms ≡ None
+    → get_member (key_text key.LinkLocalFlow) ms ≡ None
+    → has_unknown (top_keys Three) ms ≡ has_unknown (top_keys Two) ms
+top_unknown no_members streams flows = refl
+top_unknown (member text d ms) streams flows =
+    let a = other_text (key_text key.LinkLocal) text d ms streams in
+    let b = other_text (key_text key.LinkLocalFlow) text d ms flows in
+    ap (λ (p : Bool). not (known p (bytes_eq text (key_text key.LinkLocalFlow))) || has_unknown (top_keys Three) ms)
+    (flipped (key_text key.LinkLocal) text a.0)
+    ∙ ap (λ (q : Bool). not (known false q) || has_unknown (top_keys Three) ms)
+    (flipped (key_text key.LinkLocalFlow) text b.0)
+    ∙ ap (λ (u : Bool). not (known false false) || u) (top_unknown ms a.1 b.1)
+  where
+    known : Bool → Bool → Bool
+    known p q =
+        bytes_eq text (key_text key.Format) || (bytes_eq text (key_text key.Station)
+        || (bytes_eq text (key_text key.Bridge) || (bytes_eq text (key_text key.Link)
+        || (bytes_eq text (key_text key.Stream) || (p || (bytes_eq text (key_text key.Flow) || (q || false)))))))
+
+formed_same : (tree : Members) → IsTop tree → get_member (key_text key.LinkLocal) tree ≡ None
+    → get_member (key_text key.LinkLocalFlow) tree ≡ None
+    → formed (top_in Two (with_format 2 tree)) ≡ formed (top_in Three tree)
+formed_same tree is streams flows =
+    let two : Entry = top_in Two (with_format 2 tree) in
+    let three : Entry = top_in Three tree in
     let missing : missing_key two ≡ missing_key three =
-    find_same (is_missing two) (is_missing three) (keys_of two.format Top)
-    (All-cons P key.Format (key.Station ∷ key.Bridge ∷ key.Link ∷ key.Stream ∷ key.Flow ∷ [])
-    (ap (λ (b : Bool). not b) is.has_format)
-    (All-cons P key.Station (key.Bridge ∷ key.Link ∷ key.Stream ∷ key.Flow ∷ []) refl
-    (All-cons P key.Bridge (key.Link ∷ key.Stream ∷ key.Flow ∷ []) refl
-    (All-cons P key.Link (key.Stream ∷ key.Flow ∷ []) refl
-    (All-cons P key.Stream (key.Flow ∷ []) refl (All-cons P key.Flow [] refl (All-nil P))))))) in
+    ap (λ (b : Bool). let o : Option Key = cond (not b) (Some key.Format) None in o) is.has_format in
     ap (λ (o : Option Key). none_missing two o
-    >>= λ complete. ok_where (not (has_unknown (keys_of two.format Top) (with_format 2 tree))) (Unknown Top 0) complete)
+    >>= λ complete. ok_where (not (has_unknown (top_keys Two) (with_format 2 tree))) (Unknown Top 0) complete)
     missing
     ∙ ap (λ (b : Bool). none_missing three (missing_key three)
-    >>= λ complete. ok_where (not b) (Unknown Top 0) complete) (unknown_same 2 (keys_of two.format Top) tree)
+    >>= λ complete. ok_where (not b) (Unknown Top 0) complete)
+    (unknown_same 2 (top_keys Two) tree ∙ sym (top_unknown tree streams flows))
 
 tables_same : (tree : Members) (k : Key) → get_member (key_text k) (with_format 2 tree) ≡ get_member (key_text k) tree
-    → tables_at (top_of (with_format 2 tree)) k ≡ tables_at (top_of tree) k
+    → tables_at (top_in Two (with_format 2 tree)) k ≡ tables_at (top_in Three tree) k
 tables_same tree k same =
     ap (λ (o : Option Data). cond (is_some o) (or_fault (WrongKind Top 0 k) (option_and_then tables_in o)) (Ok [])) same
+
+-- an array that does not stand there has no tables
+no_tables : (e : Entry) (k : Key) → get_member (key_text k) e.members ≡ None → tables_at e k ≡ Ok []
+no_tables e k none =
+    ap (λ (o : Option Data). cond (is_some o) (or_fault (WrongKind e.table e.number k) (option_and_then tables_in o))
+    (Ok [])) none
 
 -- The tables of arrays.
 
@@ -150,34 +202,16 @@ all_same P each (ms ∷ tables) = All-cons P ms tables (each ms) (all_same P eac
 
 -- A stream's table.
 
--- a key that does not stand there is the text of no member
-other_text : (text own : List ℕ) (d : Data) (ms : Members) → get_member text (member own d ms) ≡ None
-    → (bytes_eq text own ≡ false) × (get_member text ms ≡ None)
-other_text text own d ms none = by (bytes_eq text own) refl (sym (get_first text own d ms) ∙ none)
-  where
-    by : (b : Bool) → bytes_eq text own ≡ b → cond b (Some d) (get_member text ms) ≡ None
-        → (bytes_eq text own ≡ false) × (get_member text ms ≡ None)
-    by true e h = absurd (none-some d (sym h))
-    by false e h = (e, h)
-
 -- no key is unknown for want of `paths`
 stream_unknown : (ms : Members) → get_member (key_text key.Paths) ms ≡ None
     → has_unknown (keys_of Three Stream) ms ≡ has_unknown (keys_of Two Stream) ms
 stream_unknown no_members none = refl
 stream_unknown (member text d ms) none =
     let there = other_text (key_text key.Paths) text d ms none in
-    ap (λ (b : Bool). not (known b) || has_unknown (keys_of Three Stream) ms) (flipped text there.0)
+    ap (λ (b : Bool). not (known b) || has_unknown (keys_of Three Stream) ms)
+    (flipped (key_text key.Paths) text there.0)
     ∙ ap (λ (b : Bool). not (known false) || b) (stream_unknown ms there.1)
   where
-    flipped : (text : List ℕ) → bytes_eq (key_text key.Paths) text ≡ false → bytes_eq text (key_text key.Paths) ≡ false
-    flipped text h = by (bytes_eq text (key_text key.Paths)) refl
-      where
-        by : (b : Bool) → bytes_eq text (key_text key.Paths) ≡ b → bytes_eq text (key_text key.Paths) ≡ false
-        by false e = e
-        by true e =
-            let same : text ≡ key_text key.Paths = bytes_eq-true text (key_text key.Paths) e in
-            absurd (true≢false (sym (ap (bytes_eq (key_text key.Paths)) same) ∙ h))
-
     known : Bool → Bool
     known paths =
         bytes_eq text (key_text key.Name)
@@ -266,15 +300,19 @@ streams_same (ms ∷ tables) new =
 
 -- The arrays one after another.
 
-both_same : {A B F : Type 0} (r s : Result A F) (k l : A → Result B F) → r ≡ s → ((x : A) → k x ≡ l x)
-    → (r >>= k) ≡ (s >>= l)
-both_same {A} {B} {F} r s k l same onward =
-    ap (λ (t : Result A F). t >>= k) same ∙ by s
+abbrev as_three : file.DeclaredDocument → Result file.DeclaredDocument DocumentFault
+as_three d = Ok (record d { format = Three })
+
+both_same : {A : Type 0} (r s : Result A DocumentFault) (k l : A → Result file.DeclaredDocument DocumentFault) → r ≡ s
+    → ((x : A) → k x ≡ (l x >>= as_three)) → (r >>= k) ≡ ((s >>= l) >>= as_three)
+both_same {A} r s k l same onward =
+    ap (λ (t : Result A DocumentFault). t >>= k) same ∙ by s
   where
-    by : (t : Result A F) → (t >>= k) ≡ (t >>= l)
+    by : (t : Result A DocumentFault) → (t >>= k) ≡ ((t >>= l) >>= as_three)
     by (Err e) = refl
     by (Ok x) = onward x
 
+-- what is read of arrays, where there are no tables for each port
 abbrev arrays_with : Format → List Members → List Members → List Members → List Members → List Members
     → Result file.DeclaredDocument DocumentFault
 arrays_with f stations bridges links streams flows = arrays_read (record {
@@ -283,11 +321,14 @@ arrays_with f stations bridges links streams flows = arrays_read (record {
   bridges = bridges;
   links = links;
   streams = streams;
+  link_locals = [];
   flows = flows;
+  link_local_flows = [];
 })
 
 arrays_same : (stations bridges links streams flows : List Members) → All SaysNothingNew streams
-    → arrays_with Three stations bridges links streams flows ≡ arrays_with Two stations bridges links streams flows
+    → arrays_with Three stations bridges links streams flows
+    ≡ (arrays_with Two stations bridges links streams flows >>= as_three)
 arrays_same stations bridges links streams flows new =
     both_same (entries_in station_in Three Station 1024 stations) (entries_in station_in Two Station 1024 stations) _ _
     (array_same station_in Station 1024 stations
@@ -301,24 +342,44 @@ arrays_same stations bridges links streams flows new =
     (λ c. both_same (entries_in stream_in Three Stream 4096 streams)
     (entries_in stream_in Two Stream 4096 streams) _ _
     (array_same stream_in Stream 4096 streams (streams_same streams new))
-    (λ d. both_same (entries_in flow_in Three Flow 1024 flows) (entries_in flow_in Two Flow 1024 flows) _ _
-    (array_same flow_in Flow 1024 flows (all_same (AreSame flow_in Flow) (λ ms n. refl) flows)) (λ e. refl)))))
+    (λ d. both_same (entries_within link_local_in Three LinkLocal 4096 (senders_for {B = Members} d [] c) [])
+    (entries_within link_local_in Two LinkLocal 4096 (senders_for {B = Members} d [] c) []) _ _ refl
+    (λ p. both_same (entries_in flow_in Three Flow 1024 flows) (entries_in flow_in Two Flow 1024 flows) _ _
+    (array_same flow_in Flow 1024 flows (all_same (AreSame flow_in Flow) (λ ms n. refl) flows))
+    (λ e. both_same (entries_within link_local_flow_in Three LinkLocalFlow 4096 (senders_for {B = Members} e [] c) [])
+    (entries_within link_local_flow_in Two LinkLocalFlow 4096 (senders_for {B = Members} e [] c) []) _ _ refl
+    (λ q. refl)))))))
 
 -- what is read of the top table and then of its arrays
 abbrev Tables : Type 0
 Tables = Result (List Members) DocumentFault
 
 abbrev by_parts : Result (Unit {0}) DocumentFault → Result Format DocumentFault → Tables → Tables → Tables → Tables
-    → Tables → Result file.DeclaredDocument DocumentFault
-by_parts well format stations bridges links streams flows =
-    (well >>= λ u. format >>= λ f. stations >>= λ a. bridges >>= λ b. links >>= λ c. streams >>= λ d. flows >>= λ e.
-    Ok (record { format = f; stations = a; bridges = b; links = c; streams = d; flows = e }))
+    → Tables → Tables → Tables → Result file.DeclaredDocument DocumentFault
+by_parts well format stations bridges links streams locals flows local_flows =
+    (well >>= λ u. format >>= λ f. stations >>= λ a. bridges >>= λ b. links >>= λ c. streams >>= λ d. locals
+    >>= λ p. flows >>= λ e. local_flows >>= λ q. Ok (record {
+      format = f;
+      stations = a;
+      bridges = b;
+      links = c;
+      streams = d;
+      link_locals = p;
+      flows = e;
+      link_local_flows = q;
+    }))
     >>= arrays_read
+
+tables_alike : (w x : Result (Unit {0}) DocumentFault) (f g : Result Format DocumentFault)
+    (a0 a1 b0 b1 c0 c1 d0 d1 p0 p1 e0 e1 q0 q1 : Tables) → w ≡ x → f ≡ g → a0 ≡ a1 → b0 ≡ b1 → c0 ≡ c1 → d0 ≡ d1
+    → p0 ≡ p1 → e0 ≡ e1 → q0 ≡ q1 → by_parts w f a0 b0 c0 d0 p0 e0 q0 ≡ by_parts x g a1 b1 c1 d1 p1 e1 q1
+tables_alike w x f g a0 a1 b0 b1 c0 c1 d0 d1 p0 p1 e0 e1 q0 q1 h0 h1 h2 h3 h4 h5 h6 h7 h8 =
+    rw (h0, h1, h2, h3, h4, h5, h6, h7, h8) refl
 
 formats_same : (well : Result (Unit {0}) DocumentFault) (stations bridges links streams flows : Tables)
     → ((tables : List Members) → streams ≡ Ok tables → All SaysNothingNew tables)
-    → by_parts well (Ok Three) stations bridges links streams flows
-    ≡ by_parts well (Ok Two) stations bridges links streams flows
+    → by_parts well (Ok Three) stations bridges links streams (Ok []) flows (Ok [])
+    ≡ (by_parts well (Ok Two) stations bridges links streams (Ok []) flows (Ok []) >>= as_three)
 formats_same (Err e) stations bridges links streams flows new = refl
 formats_same (Ok u) (Err e) bridges links streams flows new = refl
 formats_same (Ok u) (Ok a) (Err e) links streams flows new = refl
@@ -329,7 +390,7 @@ formats_same (Ok u) (Ok a) (Ok b) (Ok c) (Ok d) (Ok e) new = arrays_same a b c d
 
 -- the streams that are read are those that are told
 told_new : (tree : Members) → All SaysNothingNew (tables_told (top_of tree) key.Stream) → (tables : List Members)
-    → tables_at (top_of tree) key.Stream ≡ Ok tables → All SaysNothingNew tables
+    → tables_at (top_in Three tree) key.Stream ≡ Ok tables → All SaysNothingNew tables
 told_new tree new tables read = by (get_member (key_text key.Stream) tree) new read
   where
     found : (o : Option (List Members)) → All SaysNothingNew (unwrap_or o [])
@@ -344,31 +405,56 @@ told_new tree new tables read = by (get_member (key_text key.Stream) tree) new r
     by (Some d) all h = found (tables_in d) all h
 
 document_same : (tree : Members) → get_member (key_text key.Format) tree ≡ Some (integer (pos 3))
-    → All SaysNothingNew (tables_told (top_of tree) key.Stream)
-    → document_in tree ≡ document_in (with_format 2 tree)
-document_same tree format new =
-    let three : Entry = top_of tree in
-    let two : Entry = top_of (with_format 2 tree) in
+    → All SaysNothingNew (tables_told (top_of tree) key.Stream) → get_member (key_text key.LinkLocal) tree ≡ None
+    → get_member (key_text key.LinkLocalFlow) tree ≡ None
+    → document_in tree ≡ (document_in (with_format 2 tree) >>= as_three)
+document_same tree format new no_locals no_local_flows =
+    let three : Entry = top_in Three tree in
+    let two : Entry = top_in Two (with_format 2 tree) in
     let is : IsTop tree = is_top tree format in
-    let well : formed two ≡ formed three = formed_same tree is in
+    let with_two = get_format 2 (integer (pos 3)) tree format in
+    let told : Option Data → Format = λ o. format_of (unwrap_or (option_and_then (whole_in 1 3) o) 1) in
+    let well : formed two ≡ formed three = formed_same tree is no_locals no_local_flows in
     let read : Option Data → Result Format DocumentFault =
     λ o. or_fault (WrongKind Top 0 key.Format) (option_and_then (whole_in 1 3) o) >>= λ n. Ok (format_of n) in
     let in_three : format_at three ≡ Ok Three = ap read format in
-    let in_two : format_at two ≡ Ok Two = ap read (get_format 2 (integer (pos 3)) tree format) in
+    let in_two : format_at two ≡ Ok Two = ap read with_two in
     let stations = tables_same tree key.Station (is.others key.Station refl) in
     let bridges = tables_same tree key.Bridge (is.others key.Bridge refl) in
     let links = tables_same tree key.Link (is.others key.Link refl) in
     let streams = tables_same tree key.Stream (is.others key.Stream refl) in
     let flows = tables_same tree key.Flow (is.others key.Flow refl) in
-    ap (λ (f : Result Format DocumentFault). by_parts (formed three) f (tables_at three key.Station)
-    (tables_at three key.Bridge) (tables_at three key.Link) (tables_at three key.Stream) (tables_at three key.Flow))
-    in_three
+    let locals : tables_at three key.LinkLocal ≡ Ok [] = no_tables three key.LinkLocal no_locals in
+    let local_flows : tables_at three key.LinkLocalFlow ≡ Ok [] = no_tables three key.LinkLocalFlow no_local_flows in
+    let locals_two : tables_at two key.LinkLocal ≡ Ok [] =
+    no_tables two key.LinkLocal (is.others key.LinkLocal refl ∙ no_locals) in
+    let local_flows_two : tables_at two key.LinkLocalFlow ≡ Ok [] =
+    no_tables two key.LinkLocalFlow (is.others key.LinkLocalFlow refl ∙ no_local_flows) in
+    let there : document_in tree ≡ by_parts (formed three) (Ok Three) (tables_at three key.Station)
+    (tables_at three key.Bridge) (tables_at three key.Link) (tables_at three key.Stream) (Ok [])
+    (tables_at three key.Flow) (Ok []) =
+    ap (λ (f : Format). arrays_in (top_in f tree) >>= arrays_read) (ap told format)
+    ∙ tables_alike (formed three) (formed three) (format_at three) (Ok Three) (tables_at three key.Station)
+    (tables_at three key.Station) (tables_at three key.Bridge) (tables_at three key.Bridge)
+    (tables_at three key.Link) (tables_at three key.Link) (tables_at three key.Stream) (tables_at three key.Stream)
+    (tables_at three key.LinkLocal) (Ok []) (tables_at three key.Flow) (tables_at three key.Flow)
+    (tables_at three key.LinkLocalFlow) (Ok []) refl in_three refl refl refl refl locals refl local_flows in
+    let here : document_in (with_format 2 tree) ≡ by_parts (formed three) (Ok Two) (tables_at three key.Station)
+    (tables_at three key.Bridge) (tables_at three key.Link) (tables_at three key.Stream) (Ok [])
+    (tables_at three key.Flow) (Ok []) =
+    ap (λ (f : Format). arrays_in (top_in f (with_format 2 tree)) >>= arrays_read) (ap told with_two)
+    ∙ tables_alike (formed two) (formed three) (format_at two) (Ok Two) (tables_at two key.Station)
+    (tables_at three key.Station) (tables_at two key.Bridge) (tables_at three key.Bridge) (tables_at two key.Link)
+    (tables_at three key.Link) (tables_at two key.Stream) (tables_at three key.Stream) (tables_at two key.LinkLocal)
+    (Ok []) (tables_at two key.Flow) (tables_at three key.Flow) (tables_at two key.LinkLocalFlow) (Ok []) well in_two
+    stations bridges links streams locals_two flows local_flows_two in
+    there
     ∙ formats_same (formed three) (tables_at three key.Station) (tables_at three key.Bridge) (tables_at three key.Link)
     (tables_at three key.Stream) (tables_at three key.Flow) (told_new tree new)
-    ∙ rw (well, in_two, stations, bridges, links, streams, flows) refl
+    ∙ sym (ap (λ (r : Result file.DeclaredDocument DocumentFault). r >>= as_three) here)
 
 pub format_three_is_format_two : FormatThreeIsFormatTwo
 format_three_is_format_two three two m =
     ap (λ (o : Option Members). or_fault NotToml o >>= document_in) m.in_three
-    ∙ document_same m.tree m.format m.nothing_new
-    ∙ sym (ap (λ (o : Option Members). or_fault NotToml o >>= document_in) m.in_two)
+    ∙ document_same m.tree m.format m.nothing_new m.no_streams_for_ports m.no_flows_for_ports
+    ∙ sym (ap (λ (o : Option Members). (or_fault NotToml o >>= document_in) >>= as_three) m.in_two)

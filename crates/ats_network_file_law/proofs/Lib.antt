@@ -22,3 +22,7 @@ pub mod Formats
 pub mod WrittenPaths
 pub mod ByPath
 pub mod EndsMeant
+pub mod FormatNumber
+pub mod ShortRoutes
+pub mod LinkLocal
+pub mod EachPort

@@ -2,11 +2,11 @@ use Rattle.std.proofs.Common.{ℕ, List, [], Option, Result, ap, refl}
 use Rattle.ats_num.specs.Failure.{◌>>=◌, unless}
 use Rattle.ats_topology.specs.Topology.{DeclaredTopology, topology_of}
 use Rattle.ats_topology.specs.declared.fault.TopologyFault.{TopologyFault}
-use Rattle.ats_network.specs.Network.{DeclaredNetwork, declared_network}
+use Rattle.ats_network.specs.Network.{DeclaredNetwork, network_within}
 use Rattle.ats_network_table.specs.declared.fault.DocumentFault.{DocumentFault}
 use Rattle.ats_network_toml.specs.Document as file
-use Rattle.ats_network_file.specs.Reading.{links_of, network_in, nodes_of, tables_of}
-use Rattle.ats_network_file.specs.Senders.{all_added, flow_added, stream_added}
+use Rattle.ats_network_file.specs.Reading.{links_of, most_ports_of, network_in, nodes_of, tables_of}
+use Rattle.ats_network_file.specs.Senders.{all_added, flow_added, flows_in, stream_added, streams_in}
 use Rattle.ats_network_file.specs.declared.fault.NetFault.{NetFault}
 use Rattle.ats_network_file.specs.declared.fault.NetFault.TheVariants.{Topology}
 use Rattle.ats_network_file_law.specs.Passed.{IsOfTables, PassesTopologyFault, PassOn, TablesAreMeant}
@@ -21,8 +21,9 @@ of_tables text = record {
 
 -- the network of a document over a topology
 abbrev senders_over : file.DeclaredDocument → DeclaredTopology → Result DeclaredNetwork NetFault
-senders_over d topology = all_added stream_added (declared_network topology [] []) 1 d.streams
-    >>= λ streamed. all_added flow_added streamed 1 d.flows
+senders_over d topology =
+    all_added (stream_added d.format) (network_within topology (most_ports_of d.format) [] []) (streams_in topology d)
+    >>= λ streamed. all_added (flow_added d.format) streamed (flows_in topology d)
 
 passes_topology : (document : file.DeclaredDocument) → PassesTopologyFault document
 passes_topology d = λ fault is.

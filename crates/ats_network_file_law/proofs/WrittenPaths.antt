@@ -132,7 +132,7 @@ onward_back topology a b (p ∷ path) m walk =
 pub path_back : (nodes : List Node) (links : List Link) (path : List ℕ) → topology_fault nodes links ≡ None
     → IsValidPath (topology_of nodes links) path
     → routes.ports_of (topology_of nodes links) (file.path (names_along (topology_of nodes links) path)) ≡ Some path
-path_back nodes links [] none valid = absurd (valid.differ valid.walk)
+path_back nodes links [] none valid = absurd (omega (arith, valid.some))
 path_back nodes links (p ∷ path) none valid =
     let topology : DeclaredTopology = topology_of nodes links in
     let m : IsMapped topology = is_mapped nodes links none in

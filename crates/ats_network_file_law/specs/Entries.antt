@@ -1,5 +1,5 @@
-use Rattle.std.specs.Prelude.{◌≡◌, ℕ, List, length, map, Some, Ok}
-use Rattle.std.specs.List.{AllZip}
+use Rattle.std.specs.Prelude.{◌≡◌, ℕ, List, ◌++◌, length, map, Some, Ok}
+use Rattle.std.specs.List.{AllZip, flat_map}
 use Rattle.ats_num.specs.Places.{place_of}
 use Rattle.ats_topology.specs.Node.{names_of}
 use Rattle.ats_topology.specs.Topology.{DeclaredTopology, node_at}
@@ -11,7 +11,8 @@ use Rattle.ats_network.specs.Path.{IsTree, IsValidPath, nodes_along}
 use Rattle.ats_network.specs.Shortest.{shortest_of}
 use Rattle.ats_network_toml.specs.Document as file
 use Rattle.ats_network_toml.specs.Reading.{document_of}
-use Rattle.ats_network_file.specs.Reading.{links_of, network_of, nodes_of}
+use Rattle.ats_network_file.specs.LinkLocal.{flows_at, streams_at}
+use Rattle.ats_network_file.specs.Reading.{links_of, most_ports_of, network_of, nodes_of}
 
 -- the names of the nodes of a path, in order
 abbrev pub names_along : DeclaredTopology → List ℕ → List (List ℕ)
@@ -54,13 +55,21 @@ pub record IsFlowOf (topology : DeclaredTopology) (entry : file.DeclaredFlow) (f
   pub valid : IsValidPath topology flow.path
   pub greatest : flow.max_octets ≡ entry.max_octets
 
--- a network is that of a file's tables: its nodes are the stations and then the bridges, its links the links, and its
--- streams and flows those of the entries, each at its place
+-- the streams that a document declares over a topology: those of its entries, and those for each port; and the flows
+abbrev pub declared_streams : DeclaredTopology → file.DeclaredDocument → List file.DeclaredStream
+declared_streams topology d = d.streams ++ flat_map (streams_at topology) d.link_locals
+
+abbrev pub declared_flows : DeclaredTopology → file.DeclaredDocument → List file.DeclaredFlow
+declared_flows topology d = d.flows ++ flat_map (flows_at topology) d.link_local_flows
+
+-- a network is that of a file's tables: its nodes are the stations and then the bridges, its links the links, a route
+-- may have as many ports as the format allows, and its streams and flows are those of the entries, each at its place
 pub record IsNetworkOf (document : file.DeclaredDocument) (network : DeclaredNetwork) : Type 0 where
   pub nodes : network.topology.nodes ≡ nodes_of document
   pub links : network.topology.links ≡ links_of document
-  pub streams : AllZip (IsStreamOf network.topology) document.streams network.streams
-  pub flows : AllZip (IsFlowOf network.topology) document.flows network.flows
+  pub most : network.most_ports ≡ most_ports_of document.format
+  pub streams : AllZip (IsStreamOf network.topology) (declared_streams network.topology document) network.streams
+  pub flows : AllZip (IsFlowOf network.topology) (declared_flows network.topology document) network.flows
 
 -- a text that declares a network declares it by these tables, entry by entry
 abbrev pub EachEntryStands : Type 0

@@ -1,13 +1,14 @@
-use Rattle.std.specs.Prelude.{◌≡◌, ◌↔◌, ◌⊎◌, ℕ, ◌+◌, ◌-◌, ◌<◌, nat_le, Bool, true, false, not, ◌&&◌, ◌||◌, List, []}
+use Rattle.std.specs.Prelude.{◌≡◌, ◌↔◌, ◌⊎◌, ℕ, ◌+◌, ◌-◌, ◌*◌, ◌<◌, nat_le, Bool, true, false, not, ◌&&◌, ◌||◌, List}
+use Rattle.std.specs.Prelude.{[]}
 use Rattle.std.specs.Prelude.{◌∷◌, ◌++◌, length, All, Option, None, Some, is_some, option_and_then, unwrap_or, Err}
 use Rattle.toml.specs.Data.{Data, Members, get_member}
 use Rattle.ats_network_table.specs.Kinds.{address_in, list_in, long_in, name_in, some_where, whole_in}
 use Rattle.ats_network_table.specs.Walk.{Entry, format_of, has, has_unknown, is_missing, may_branch}
 use Rattle.ats_network_table.specs.Words.{key_text, keys_of}
 use Rattle.ats_network_table.specs.declared.format.Format.{Format}
-use Rattle.ats_network_table.specs.declared.format.Format.TheVariants.{One}
 use Rattle.ats_network_table.specs.declared.table.Table.{Table}
-use Rattle.ats_network_table.specs.declared.table.Table.TheVariants.{Top, Station, Bridge, Link, Stream, Flow}
+use Rattle.ats_network_table.specs.declared.table.Table.TheVariants.{Top, Station, Bridge, Link, Stream, LinkLocal}
+use Rattle.ats_network_table.specs.declared.table.Table.TheVariants.{Flow, LinkLocalFlow}
 use Rattle.ats_network_table.specs.declared.key.Key.{Key}
 use Rattle.ats_network_table.specs.declared.key.Key.TheVariants as key
 use Rattle.ats_network_table.specs.declared.fault.DocumentFault.{DocumentFault}
@@ -38,6 +39,15 @@ several_in d = option_and_then (λ paths. some_where (nat_le 1 (length paths)) p
 abbrev pub listeners_in : Data → Option (List (List ℕ))
 listeners_in d = option_and_then (λ names. some_where (nat_le 1 (length names)) names) (list_in name_in d)
 
+-- a name of at most 26 bytes, as a table for each port has: the number of a port may stand behind it
+abbrev pub short_name_in : Data → Option (List ℕ)
+short_name_in d = option_and_then (λ name. some_where (nat_le (length name) 26) name) (name_in d)
+
+abbrev pub name_for : Table → Data → Option (List ℕ)
+name_for LinkLocal = short_name_in
+name_for LinkLocalFlow = short_name_in
+name_for table = name_in
+
 -- a whole number of 32 bits
 abbrev pub short_in : Data → Option ℕ
 short_in = whole_in 0 4294967295
@@ -50,8 +60,10 @@ is_right e key.Station = is_kind tables_in e key.Station
 is_right e key.Bridge = is_kind tables_in e key.Bridge
 is_right e key.Link = is_kind tables_in e key.Link
 is_right e key.Stream = is_kind tables_in e key.Stream
+is_right e key.LinkLocal = is_kind tables_in e key.LinkLocal
 is_right e key.Flow = is_kind tables_in e key.Flow
-is_right e key.Name = is_kind name_in e key.Name
+is_right e key.LinkLocalFlow = is_kind tables_in e key.LinkLocalFlow
+is_right e key.Name = is_kind (name_for e.table) e key.Name
 is_right e key.From = is_kind name_in e key.From
 is_right e key.To = is_kind name_in e key.To || (may_branch e.format e.table && is_kind listeners_in e key.To)
 is_right e key.A = is_kind name_in e key.A
@@ -130,26 +142,35 @@ tables_from format t n (ms ∷ rest) =
 abbrev pub pieces_in : Format → Table → ℕ → List Members → List Piece
 pieces_in format t most tables = array t most (length tables) ∷ tables_from format t 1 tables
 
+-- an array whose tables stand for a sender at each port of so many links, two to a link, behind so many senders that
+-- stand alone: they are 4096 at most together
+abbrev pub pieces_at_ports : Format → Table → ℕ → ℕ → List Members → List Piece
+pieces_at_ports format t senders links tables =
+    array t 4096 (senders + length tables * (2 * links)) ∷ tables_from format t 1 tables
+
 -- the format that the top table gives, and the tables of an array; where it gives none, format 1 and no tables
-abbrev pub format_told : Entry → Format
-format_told top =
-    format_of (unwrap_or (option_and_then (whole_in 1 3) (get_member (key_text key.Format) top.members)) 1)
+abbrev pub format_told : Members → Format
+format_told tree = format_of (unwrap_or (option_and_then (whole_in 1 3) (get_member (key_text key.Format) tree)) 1)
 
 abbrev pub tables_told : Entry → Key → List Members
 tables_told top k = unwrap_or (option_and_then tables_in (get_member (key_text k) top.members)) []
 
--- the top table
+-- the top table, whose keys are those of the format that it gives
 abbrev pub top_of : Members → Entry
-top_of tree = record { format = One; table = Top; number = 0; members = tree }
+top_of tree = record { format = format_told tree; table = Top; number = 0; members = tree }
 
--- the arrays of a file in their order: bridges are counted on from the stations
+-- the arrays of a file in their order: bridges are counted on from the stations, and tables for each port by the links
 abbrev pub arrays_of : Entry → List Piece
 arrays_of top =
-    pieces_in (format_told top) Station 1024 (tables_told top key.Station)
-    ++ pieces_in (format_told top) Bridge (1024 - length (tables_told top key.Station)) (tables_told top key.Bridge)
-    ++ pieces_in (format_told top) Link 2048 (tables_told top key.Link)
-    ++ pieces_in (format_told top) Stream 4096 (tables_told top key.Stream)
-    ++ pieces_in (format_told top) Flow 1024 (tables_told top key.Flow)
+    pieces_in top.format Station 1024 (tables_told top key.Station)
+    ++ pieces_in top.format Bridge (1024 - length (tables_told top key.Station)) (tables_told top key.Bridge)
+    ++ pieces_in top.format Link 2048 (tables_told top key.Link)
+    ++ pieces_in top.format Stream 4096 (tables_told top key.Stream)
+    ++ pieces_at_ports top.format LinkLocal (length (tables_told top key.Stream)) (length (tables_told top key.Link))
+    (tables_told top key.LinkLocal)
+    ++ pieces_in top.format Flow 1024 (tables_told top key.Flow)
+    ++ pieces_at_ports top.format LinkLocalFlow (length (tables_told top key.Flow)) (length (tables_told top key.Link))
+    (tables_told top key.LinkLocalFlow)
 
 -- all that is judged of a file, in order: the top table, then the arrays
 abbrev pub pieces_of : Entry → List Piece

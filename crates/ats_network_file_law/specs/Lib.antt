@@ -9,3 +9,7 @@ pub mod OneListener
 pub mod Ends
 pub mod Several
 pub mod Formats
+pub mod FormatNumber
+pub mod ShortRoutes
+pub mod LinkLocal
+pub mod EachPort

@@ -1,19 +1,23 @@
 //! What is proved of the definitions themselves.
 
+ghost use Rattle.ats_network_file_law.specs.EachPort.{EachPortHasItsSender};
 ghost use Rattle.ats_network_file_law.specs.Ends.{EndsAreMeant};
 ghost use Rattle.ats_network_file_law.specs.Entries.{EachEntryStands};
 ghost use Rattle.ats_network_file_law.specs.FormFaults.{FormFaultIsTheFirst};
+ghost use Rattle.ats_network_file_law.specs.FormatNumber.{EachHasItsNumber};
 ghost use Rattle.ats_network_file_law.specs.Formats.{FormatThreeIsFormatTwo};
+ghost use Rattle.ats_network_file_law.specs.LinkLocal.{TablesAreForEachPort};
 ghost use Rattle.ats_network_file_law.specs.Named.{EachNodeIsNamed, EachSenderIsNamed};
 ghost use Rattle.ats_network_file_law.specs.OneListener.{OneListenerIsByPath};
 ghost use Rattle.ats_network_file_law.specs.Passed.{PassOn, TablesAreMeant};
 ghost use Rattle.ats_network_file_law.specs.SenderFaults.{SenderFaultIsTheFirst};
-ghost use Rattle.ats_network_file_law.specs.Several.{EndsMakeATree};
+ghost use Rattle.ats_network_file_law.specs.Several.{EndsMakeATree, StationsMakeATree};
+ghost use Rattle.ats_network_file_law.specs.ShortRoutes.{FormatOneIsFormatTwo, ShortRoutesAreOfBoth};
 ghost use Rattle.ats_network_file_law.specs.TopologyFaults.{TopologyFaultIsTheFirst};
 
 /// A law: in the network that a text declares, each station, bridge and link of the text's tables stands at its
-/// place, and so does each stream and each flow, with its name, its numbers, its routes, and a class for each of
-/// its ports; and nothing else stands there.
+/// place, and so does each stream and each flow, and behind them those of the tables for each port, with its name, its
+/// numbers, its routes, and a class for each of its ports; and nothing else stands there.
 pub fn each_entry_stands()
     ensures { EachEntryStands }
 {}
@@ -43,8 +47,9 @@ pub fn topology_fault_is_the_first()
 {}
 
 /// A law: a document whose nodes and links have no fault gives a fault exactly where it is the first of
-/// its streams and then of its flows: an entry's routes, its rules, its name, its identity, and last the
-/// number of those before it, or of the ports of streams.
+/// its streams, those for each port behind the others, and then of its flows: an entry's routes, its rules, its name,
+/// its identity, and last the number of those before it, or of the ports of streams. It names the entry by its table
+/// and its number there, counted from 1.
 pub fn sender_fault_is_the_first()
     ensures { SenderFaultIsTheFirst }
 {}
@@ -73,14 +78,51 @@ pub fn ends_are_meant()
     ensures { EndsAreMeant }
 {}
 
-/// A law: the routes from one node to different ones, as they are found by the ends alone, are those of a tree where
-/// each of them is a valid path. So of a stream that names its listeners no route is refused but for itself.
+/// A law: the routes from one node, as they are found by the ends alone, are those of a tree where each of them is a
+/// valid path, exactly where no listener is on the way to another one.
 pub fn ends_make_a_tree()
     ensures { EndsMakeATree }
 {}
 
-/// A law: a text of format 3 whose streams say nothing that only format 3 can declares what it does with the number 2
-/// in the place of its format.
+/// A law: so they are where the listeners are different stations: of a stream to stations no route is refused but for
+/// itself.
+pub fn stations_make_a_tree()
+    ensures { StationsMakeATree }
+{}
+
+/// A law: a document that a text declares has the format whose number, 1, 2 or 3, stands with `format` in the text.
+pub fn each_has_its_number()
+    ensures { EachHasItsNumber }
+{}
+
+/// A law: the tables of a text of format 3 which has none for each port, and whose streams say nothing that only format
+/// 3 can, declare what they do with the number 2 in the place of its format.
 pub fn format_three_is_format_two()
     ensures { FormatThreeIsFormatTwo }
+{}
+
+/// A law: by the same tables a document declares in format 1 the network that it declares in format 2, or has the same
+/// first fault.
+pub fn format_one_is_format_two()
+    ensures { FormatOneIsFormatTwo }
+{}
+
+/// A law: a document whose routes have at most 16 ports and lead from stations to stations declares in format 3 the
+/// network that it declares in format 2, but for the greatest number of ports of a route, or has the same first fault.
+pub fn short_routes_are_of_both()
+    ensures { ShortRoutesAreOfBoth }
+{}
+
+/// A law: a document with tables for each port declares the networks that it declares with a `stream` or a `flow` table
+/// for each port of its links in the place of each of these, behind the others; so do texts of these documents. Each
+/// such stream or flow goes along its port alone.
+pub fn tables_are_for_each_port()
+    ensures { TablesAreForEachPort }
+{}
+
+/// A law: behind the streams of a document its network has for each table for each port, and for each port, one stream
+/// with the name of the table, `-` and the port's number, which goes along this port alone, with the numbers of the
+/// table and its class; and no other. So it has flows.
+pub fn each_port_has_its_sender()
+    ensures { EachPortHasItsSender }
 {}

@@ -52,7 +52,9 @@ named_key key.Station = refl
 named_key key.Bridge = refl
 named_key key.Link = refl
 named_key key.Stream = refl
+named_key key.LinkLocal = refl
 named_key key.Flow = refl
+named_key key.LinkLocalFlow = refl
 
 pub at_slot : (k d : Key) → get_or all_keys (slot_of k) d ≡ k
 at_slot key.Name d = refl
@@ -82,9 +84,11 @@ at_slot key.Station d = refl
 at_slot key.Bridge d = refl
 at_slot key.Link d = refl
 at_slot key.Stream d = refl
+at_slot key.LinkLocal d = refl
 at_slot key.Flow d = refl
+at_slot key.LinkLocalFlow d = refl
 
-pub slot_within : (k : Key) → slot_of k < 28
+pub slot_within : (k : Key) → slot_of k < 30
 slot_within key.Name = omega arith
 slot_within key.Path = omega arith
 slot_within key.Class = omega arith
@@ -112,7 +116,9 @@ slot_within key.Station = omega arith
 slot_within key.Bridge = omega arith
 slot_within key.Link = omega arith
 slot_within key.Stream = omega arith
+slot_within key.LinkLocal = omega arith
 slot_within key.Flow = omega arith
+slot_within key.LinkLocalFlow = omega arith
 
 -- what a search found passes its test
 record IsFound (test : Key → Bool) (xs : List Key) (d : Key) (n i : ℕ) : Type 0 where
@@ -185,7 +191,7 @@ first_held (Some w) v rest = refl
 
 -- a member is put at the place of its key, where nothing is there
 pub at_its_slot : (values : List (Option (Bor Value))) (text : List ℕ) (v : Bor Value) (ms : Members) (slot : ℕ)
-    (k : Key) → length values ≡ 28 → named text ≡ Some slot
+    (k : Key) → length values ≡ 30 → named text ≡ Some slot
     → has_so_far (set values slot (option_or (get_or values slot None) (Some v))) ms k
     ≡ has_so_far values (member text (view v.now) ms) k
 at_its_slot values text v ms slot k long is = ⊎_elim here there (cases_eq (slot_of k) slot)

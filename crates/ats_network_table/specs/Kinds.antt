@@ -17,6 +17,10 @@ some_where passes x = if passes then Some x else None
 abbrev pub name_in : Data → Option (List ℕ)
 name_in d = as_str d >>= name_of
 
+-- the same, of at most 26 bytes: with `-` and up to four digits behind it, it is a name
+abbrev pub short_name_in : Data → Option (List ℕ)
+short_name_in d = name_in d >>= λ name. some_where (nat_le (length name) 26) name
+
 -- a whole number of a range
 abbrev pub ranged : ℕ → ℕ → ℤ → Option ℕ
 ranged least most (pos n) = some_where (nat_le least n && nat_le n most) n

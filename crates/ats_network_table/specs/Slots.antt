@@ -21,7 +21,7 @@ abbrev pub all_keys : List Key
 all_keys = key.Name ∷ key.Path ∷ key.Class ∷ key.RateBps ∷ key.BurstBits ∷ key.MinOctets ∷ key.MaxOctets
     ∷ key.From ∷ key.To ∷ key.DeadlineNs ∷ key.Address ∷ key.Vlan ∷ key.A ∷ key.B ∷ key.Mbps ∷ key.PropagationNs
     ∷ key.ProcessingNs ∷ key.ResidenceNs ∷ key.ProcessingMinNs ∷ key.ProcessingMaxNs ∷ key.Classes ∷ key.Paths
-    ∷ key.Format ∷ key.Station ∷ key.Bridge ∷ key.Link ∷ key.Stream ∷ key.Flow ∷ []
+    ∷ key.Format ∷ key.Station ∷ key.Bridge ∷ key.Link ∷ key.Stream ∷ key.LinkLocal ∷ key.Flow ∷ key.LinkLocalFlow ∷ []
 
 -- the place of a key among all
 abbrev pub slot_of : Key → ℕ
@@ -52,7 +52,9 @@ slot_of key.Station = 23
 slot_of key.Bridge = 24
 slot_of key.Link = 25
 slot_of key.Stream = 26
-slot_of key.Flow = 27
+slot_of key.LinkLocal = 27
+slot_of key.Flow = 28
+slot_of key.LinkLocalFlow = 29
 
 -- one of these keys has this place
 abbrev pub is_listed : List Key → ℕ → Bool
@@ -68,7 +70,7 @@ has_other ks ms = list_any (stands_beside ks ms) all_keys
 
 -- at the place of each key there is its value, where the table has the key; and whether each member has one of the keys
 pub record AreSlots (entries : Entries) (values : List (Option (Bor Value))) (all_named : Bool) : Type 0 where
-  pub long : length values ≡ 28
+  pub long : length values ≡ 30
   pub each : (k : Key) → option_map (λ v. view v.now) (slice_index_or values (slot_of k) None)
       ≡ get_member (key_text k) (members_view entries)
   pub named : has_unknown all_keys (members_view entries) ≡ not all_named

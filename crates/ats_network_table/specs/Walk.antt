@@ -1,16 +1,18 @@
 use Rattle.std.specs.Prelude.{ℕ, ◌≤◌, ◌<◌, ◌^◌, ◌==◌, nat_le, Bool, true, false, not, ◌&&◌, ◌||◌, if◌then◌else◌}
-use Rattle.std.specs.Prelude.{List, [], ◌∷◌, length, Option, Some, None, is_some, option_and_then, Result, Ok, Err}
+use Rattle.std.specs.Prelude.{List, [], ◌∷◌, length, Option, Some, None, is_some, option_and_then, unwrap_or, Result}
+use Rattle.std.specs.Prelude.{Ok}
+use Rattle.std.specs.Prelude.{Err}
 use Rattle.std.specs.List.{list_any, find}
 use Rattle.std.specs.Str.{bytes_eq}
 use Rattle.toml.specs.Data.{Data, Members, no_members, member, get_member}
 use Rattle.ats_network_table.specs.Words.{key_text, keys_of}
 use Rattle.ats_num.specs.Failure.{◌>>=◌, or_fault, ok_where}
-use Rattle.ats_network_table.specs.Kinds.{name_in, whole_in, long_in, address_in, list_in}
+use Rattle.ats_network_table.specs.Kinds.{name_in, short_name_in, whole_in, long_in, address_in, list_in}
 use Rattle.ats_network_table.specs.Kinds.{paths_in, one_or_more}
 use Rattle.ats_network_table.specs.declared.format.Format.{Format}
 use Rattle.ats_network_table.specs.declared.format.Format.TheVariants.{One, Two, Three}
 use Rattle.ats_network_table.specs.declared.table.Table.{Table}
-use Rattle.ats_network_table.specs.declared.table.Table.TheVariants.{Stream}
+use Rattle.ats_network_table.specs.declared.table.Table.TheVariants.{Top, Stream}
 use Rattle.ats_network_table.specs.declared.key.Key.{Key}
 use Rattle.ats_network_table.specs.declared.key.Key.TheVariants as key
 use Rattle.ats_network_table.specs.declared.fault.DocumentFault.{DocumentFault}
@@ -37,6 +39,14 @@ may_branch format table = false
 abbrev pub has_paths : Entry → Bool
 has_paths e = may_branch e.format e.table && has e key.Paths
 
+-- classes stand in a table that may list them: in that of a stream
+abbrev pub lists_classes : Table → Bool
+lists_classes Stream = true
+lists_classes table = false
+
+abbrev pub has_classes : Entry → Bool
+has_classes e = lists_classes e.table && has e key.Classes
+
 -- a key of the table's list has to stand there: all but the arrays at the top, the deadline, and these: a path, or
 -- paths, or both ends; a class, or classes; address and VLAN, or neither
 abbrev pub is_due : Entry → Key → Bool
@@ -44,12 +54,14 @@ is_due e key.Station = false
 is_due e key.Bridge = false
 is_due e key.Link = false
 is_due e key.Stream = false
+is_due e key.LinkLocal = false
 is_due e key.Flow = false
+is_due e key.LinkLocalFlow = false
 is_due e key.Path = not (has e key.From || has e key.To || has_paths e)
 is_due e key.Paths = false
 is_due e key.From = has e key.To
 is_due e key.To = has e key.From
-is_due e key.Class = not (has e key.Classes)
+is_due e key.Class = not (has_classes e)
 is_due e key.Classes = false
 is_due e key.DeadlineNs = false
 is_due e key.Address = has e key.Vlan
@@ -94,6 +106,9 @@ at e k kind = or_fault (wrong_kind e k) (option_and_then kind (get_member (key_t
 abbrev pub name_at : Entry → Key → Result (List ℕ) DocumentFault
 name_at e k = at e k name_in
 
+abbrev pub short_name_at : Entry → Key → Result (List ℕ) DocumentFault
+short_name_at e k = at e k short_name_in
+
 abbrev pub whole_at : Entry → Key → ℕ → ℕ → Result ℕ DocumentFault
 whole_at e k least most = at e k (whole_in least most)
 
@@ -135,6 +150,19 @@ format_of n = if n == 1 then One else if n == 2 then Two else Three
 
 abbrev pub format_at : Entry → Result Format DocumentFault
 format_at top = whole_at top key.Format 1 3 >>= λ n. Ok (format_of n)
+
+-- the format that a value gives; where it gives none, format 1
+abbrev pub format_from : Option Data → Format
+format_from value = format_of (unwrap_or (option_and_then (whole_in 1 3) value) 1)
+
+-- the top table of a file, in the format that it gives: in format 3 it may have more arrays
+abbrev pub top_of : Members → Entry
+top_of tree = record {
+  format = format_from (get_member (key_text key.Format) tree);
+  table = Top;
+  number = 0;
+  members = tree;
+}
 
 -- the deadline; an absent one is a second
 abbrev pub deadline_at : Entry → Result ℕ DocumentFault

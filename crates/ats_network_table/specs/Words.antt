@@ -1,6 +1,7 @@
 use Rattle.std.specs.Prelude.{ℕ, List, [], ◌∷◌, codes}
 use Rattle.ats_network_table.specs.declared.table.Table.{Table}
-use Rattle.ats_network_table.specs.declared.table.Table.TheVariants.{Top, Station, Bridge, Link, Stream, Flow}
+use Rattle.ats_network_table.specs.declared.table.Table.TheVariants.{Top, Station, Bridge, Link, Stream, LinkLocal}
+use Rattle.ats_network_table.specs.declared.table.Table.TheVariants.{Flow, LinkLocalFlow}
 use Rattle.ats_network_table.specs.declared.format.Format.{Format}
 use Rattle.ats_network_table.specs.declared.format.Format.TheVariants.{One, Two, Three}
 use Rattle.ats_network_table.specs.declared.key.Key.{Key}
@@ -13,7 +14,9 @@ table_text Station = codes "station"
 table_text Bridge = codes "bridge"
 table_text Link = codes "link"
 table_text Stream = codes "stream"
+table_text LinkLocal = codes "link_local"
 table_text Flow = codes "flow"
+table_text LinkLocalFlow = codes "link_local_flow"
 
 -- a key as a file writes it
 abbrev pub key_text : Key → List ℕ
@@ -44,7 +47,9 @@ key_text key.Station = codes "station"
 key_text key.Bridge = codes "bridge"
 key_text key.Link = codes "link"
 key_text key.Stream = codes "stream"
+key_text key.LinkLocal = codes "link_local"
 key_text key.Flow = codes "flow"
+key_text key.LinkLocalFlow = codes "link_local_flow"
 
 -- the keys of a bridge's least and of its greatest processing time: one in format 1
 abbrev pub least_processing_key : Format → Key
@@ -56,6 +61,12 @@ abbrev pub greatest_processing_key : Format → Key
 greatest_processing_key One = key.ProcessingNs
 greatest_processing_key Two = key.ProcessingMaxNs
 greatest_processing_key Three = key.ProcessingMaxNs
+
+-- the keys of the top table: in format 3 it may have tables for each port
+abbrev pub top_keys : Format → List Key
+top_keys Three = key.Format ∷ key.Station ∷ key.Bridge ∷ key.Link ∷ key.Stream ∷ key.LinkLocal ∷ key.Flow
+    ∷ key.LinkLocalFlow ∷ []
+top_keys format = key.Format ∷ key.Station ∷ key.Bridge ∷ key.Link ∷ key.Stream ∷ key.Flow ∷ []
 
 -- the keys of a bridge in files of a format
 abbrev pub bridge_keys : Format → List Key
@@ -74,9 +85,12 @@ stream_keys format = key.Name ∷ key.Path ∷ keys_behind_routes
 
 -- the keys that a table may have in files of a format, in the order in which faults are looked for
 abbrev pub keys_of : Format → Table → List Key
-keys_of format Top = key.Format ∷ key.Station ∷ key.Bridge ∷ key.Link ∷ key.Stream ∷ key.Flow ∷ []
+keys_of format Top = top_keys format
 keys_of format Station = key.Name ∷ []
 keys_of format Bridge = bridge_keys format
 keys_of format Link = key.A ∷ key.B ∷ key.Mbps ∷ key.PropagationNs ∷ []
 keys_of format Stream = stream_keys format
+keys_of format LinkLocal = key.Name ∷ key.Class ∷ key.RateBps ∷ key.BurstBits ∷ key.MinOctets ∷ key.MaxOctets
+    ∷ key.DeadlineNs ∷ []
 keys_of format Flow = key.Name ∷ key.Path ∷ key.From ∷ key.To ∷ key.MaxOctets ∷ []
+keys_of format LinkLocalFlow = key.Name ∷ key.MaxOctets ∷ []

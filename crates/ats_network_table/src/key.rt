@@ -59,8 +59,12 @@ pub enum Key {
     Link,
     /// The array of streams.
     Stream,
+    /// The array of streams for each port, in format 3.
+    LinkLocal,
     /// The array of flows.
     Flow,
+    /// The array of flows for each port, in format 3.
+    LinkLocalFlow,
 }
 
 impl Key {
@@ -98,7 +102,9 @@ impl Key {
             Key::Bridge => "bridge",
             Key::Link => "link",
             Key::Stream => "stream",
+            Key::LinkLocal => "link_local",
             Key::Flow => "flow",
+            Key::LinkLocalFlow => "link_local_flow",
         }
     }
 }

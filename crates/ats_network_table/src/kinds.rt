@@ -1,13 +1,17 @@
 //! The kinds of values that a key may hold.
 
-ghost use Rattle.std.specs.Prelude.{◌≡◌, ◌≤◌, ◌<◌, ◌^◌, ◌&&◌, nat_le, slice_index, IfSome, Option};
+ghost use Rattle.std.specs.Prelude.{◌≡◌, ◌≤◌, ◌<◌, ◌^◌, ◌&&◌, nat_le, length, slice_index, IfSome, Option};
 ghost use Rattle.toml.specs.Data.{Data};
 ghost use Rattle.toml.specs.View.{view};
-ghost use Rattle.ats_network_table.specs.Kinds.{some_where, name_in, whole_in, digit_at, pair_at, joined_at, two_more};
+ghost use Rattle.ats_network_table.specs.Kinds.{some_where, name_in, short_name_in, whole_in, digit_at, pair_at};
+ghost use Rattle.ats_network_table.specs.Kinds.{joined_at, two_more};
 ghost use Rattle.ats_network_table.specs.Kinds.{address_of, address_in};
 
 use ats_num::Name;
 use toml::Value;
+
+/// The most bytes of a name behind which `-` and the number of a port make a name.
+pub(crate) const MAX_SHORT_NAME: usize = 26;
 
 /// The greatest whole number of a TOML text.
 pub(crate) const MAX_WHOLE: u64 = 9_223_372_036_854_775_807;
@@ -47,6 +51,19 @@ pub(crate) fn name_in(value: &Value) -> Option<Name>
     match value.as_str() {
         Some(text) => Name::new(text.as_bytes()),
         None => None,
+    }
+}
+
+/// The name that a value writes, where it is a string that is a name of at most 26 bytes.
+pub(crate) fn short_name_in(value: &Value) -> Option<Name>
+    ensures value { result ≡ short_name_in (view value.now) }
+    ensures short { IfSome result (λ name. length name ≤ 26) }
+{
+    let name = name_in(value)?;
+    if name.bytes().len() <= MAX_SHORT_NAME {
+        Some(name)
+    } else {
+        None
     }
 }
 

@@ -4,11 +4,13 @@ ghost use Rattle.std.specs.Prelude.{◌≡◌, ◌≤◌, ◌<◌, ◌^◌, opti
 ghost use Rattle.std.specs.Prelude.{Some, None};
 ghost use Rattle.std.specs.Option.{ForSome};
 ghost use Rattle.toml.specs.Data.{get_member};
-ghost use Rattle.toml.specs.View.{view, items_view, table_view};
+ghost use Rattle.toml.specs.View.{view, items_view, members_view, table_view};
 ghost use Rattle.ats_network_table.specs.Words.{key_text};
 ghost use Rattle.ats_network_table.specs.Walk.{has, is_due, is_missing, missing_key, formed, wrong_kind, at};
 ghost use Rattle.ats_network_table.specs.Walk.{name_at, whole_at, short_at, long_at, format_at, path_at, paths_at};
-ghost use Rattle.ats_network_table.specs.Walk.{classes_at, has_paths, listeners_at, may_branch};
+ghost use Rattle.ats_network_table.specs.Walk.{classes_at, has_classes, has_paths, lists_classes, listeners_at};
+ghost use Rattle.ats_network_table.specs.Walk.{may_branch};
+ghost use Rattle.ats_network_table.specs.Walk.{format_from, format_of, short_name_at, top_of};
 ghost use Rattle.ats_network_table.specs.Walk.{IsIdentity, identity_at, deadline_at};
 ghost use Rattle.ats_num.specs.Failure.{or_fault, GivesSeen};
 ghost use Rattle.ats_network_table.specs.Kinds.{address_in, all_in, list_in, names_in, paths_in};
@@ -16,7 +18,7 @@ ghost use Rattle.ats_network_table.specs.Kinds.{address_in, all_in, list_in, nam
 use crate::fault::DocumentFault;
 use crate::format::Format;
 use crate::key::Key;
-use crate::kinds::{FromValue, MAX_WHOLE, address_in, name_in, whole_in};
+use crate::kinds::{FromValue, MAX_WHOLE, address_in, name_in, short_name_in, whole_in};
 use crate::slots::Slots;
 use crate::table::Table;
 use ats_num::{Failure, Name};
@@ -50,6 +52,20 @@ impl<'a> Section<'a> {
             table,
             number,
             slots: Slots::of(members),
+        }
+    }
+
+    /// The top table of a file, in the format that it gives, and in format 1 where it gives none; it takes no memory.
+    pub fn top(members: &'a toml::Table) -> Self
+        ensures { entry_of result ≡ top_of (table_view members.now) }
+    {
+        let slots = Slots::of(members);
+        let format = format_given(&slots);
+        Section {
+            format,
+            table: Table::Top,
+            number: 0,
+            slots,
         }
     }
 
@@ -91,6 +107,13 @@ impl<'a> Section<'a> {
         self.may_branch() && self.has(Key::Paths)
     }
 
+    // Whether classes stand in a table that may list them: in that of a stream.
+    fn has_classes(&self) -> bool
+        ensures { result ≡ has_classes (entry_of self.now) }
+    {
+        lists_classes(self.table) && self.has(Key::Classes)
+    }
+
     // Whether a key of the table's list has to stand there.
     fn is_due(&self, key: Key) -> bool
         ensures { result ≡ is_due (entry_of self.now) key }
@@ -100,12 +123,14 @@ impl<'a> Section<'a> {
             Key::Bridge => false,
             Key::Link => false,
             Key::Stream => false,
+            Key::LinkLocal => false,
             Key::Flow => false,
+            Key::LinkLocalFlow => false,
             Key::Path => !(self.has(Key::From) || self.has(Key::To) || self.has_paths()),
             Key::Paths => false,
             Key::From => self.has(Key::To),
             Key::To => self.has(Key::From),
-            Key::Class => !self.has(Key::Classes),
+            Key::Class => !self.has_classes(),
             Key::Classes => false,
             Key::DeadlineNs => false,
             Key::Address => self.has(Key::Vlan),
@@ -193,6 +218,18 @@ impl<'a> Section<'a> {
         name_in(self.at(key)?).ok_or(self.wrong_kind(key))
     }
 
+    /// The name of at most 26 bytes that stands with a key: with `-` and the number of a port behind it, it is a name.
+    ///
+    /// # Errors
+    ///
+    /// `WrongKind` of the key, where no string that is such a name stands with it.
+    pub fn short_name(&self, key: Key) -> Result<Name, DocumentFault>
+        ensures value { result ≡ short_name_at (entry_of self.now) key }
+        ensures short { IfOk result (λ name. length name ≤ 26) }
+    {
+        short_name_in(self.at(key)?).ok_or(self.wrong_kind(key))
+    }
+
     // The whole number of this range that stands with a key.
     fn whole(&self, key: Key, least: u64, most: u64) -> Result<u64, DocumentFault>
         ensures value { result ≡ whole_at (entry_of self.now) key least most }
@@ -231,11 +268,7 @@ impl<'a> Section<'a> {
     pub fn format_given(&self) -> Result<Format, DocumentFault>
         ensures { result ≡ format_at (entry_of self.now) }
     {
-        match self.whole(Key::Format, 1, 3)? {
-            1 => Ok(Format::One),
-            2 => Ok(Format::Two),
-            _ => Ok(Format::Three),
-        }
+        Ok(format_of(self.whole(Key::Format, 1, 3)?))
     }
 
     /// The names of a path, at least two, which has neither an end nor paths beside it.
@@ -361,6 +394,47 @@ impl<'a> Section<'a> {
         } else {
             Ok(DEFAULT_DEADLINE_NS)
         }
+    }
+}
+
+// The format that a top table gives; format 1 where it gives none.
+fn format_given(top: &Slots) -> Format
+    ensures { result ≡ format_from (get_member (key_text Key.Format) (members_view top.now)) }
+{
+    match top.value(Key::Format) {
+        Some(value) => format_from(value),
+        None => Format::One,
+    }
+}
+
+// The format that a value gives; format 1 where it gives none.
+fn format_from(value: &Value) -> Format
+    ensures { result ≡ format_from (Some (view value.now)) }
+{
+    match whole_in(value, 1, 3) {
+        Some(n) => format_of(n),
+        None => Format::One,
+    }
+}
+
+// The format with this number: 1, 2, or else 3.
+fn format_of(n: u64) -> Format
+    ensures { result ≡ format_of n }
+{
+    match n {
+        1 => Format::One,
+        2 => Format::Two,
+        _ => Format::Three,
+    }
+}
+
+// Whether a table may list classes: that of a stream may.
+fn lists_classes(table: Table) -> bool
+    ensures { result ≡ lists_classes table }
+{
+    match table {
+        Table::Stream => true,
+        _ => false,
     }
 }
 

@@ -14,7 +14,7 @@ use std::marker::Model;
 use toml::Value;
 
 // The keys of all tables, the more frequent ones first.
-const ALL_KEYS: [Key; 28] = [
+const ALL_KEYS: [Key; 30] = [
     Key::Name,
     Key::Path,
     Key::Class,
@@ -42,14 +42,16 @@ const ALL_KEYS: [Key; 28] = [
     Key::Bridge,
     Key::Link,
     Key::Stream,
+    Key::LinkLocal,
     Key::Flow,
+    Key::LinkLocalFlow,
 ];
 
 /// The values of a table, each found at once by its key. Contracts see the table's entries.
 #[derive(Drop)]
 pub(crate) struct Slots<'a> {
     members: &'a toml::Table,
-    values: [Option<&'a Value>; 28],
+    values: [Option<&'a Value>; 30],
     // Whether each member's text is that of one of all keys.
     all_named: bool,
 }
@@ -73,7 +75,7 @@ impl<'a> Slots<'a> {
     pub(crate) fn of(members: &'a toml::Table) -> Self
         ensures { result ≡ members.now.entries }
     {
-        let mut values = [None; 28];
+        let mut values = [None; 30];
         let mut all_named = true;
         'members: for (text, value) in members.iter() {
             match slot_named(text.as_str()) {
@@ -133,7 +135,7 @@ fn at<'a>(values: &[Option<&'a Value>], place: usize) -> Option<&'a Value>
 // The place of a key among all keys.
 fn slot_of(key: Key) -> usize
     ensures place { result ≡ slot_of key }
-    ensures within { result < 28 }
+    ensures within { result < 30 }
 {
     key as usize
 }
@@ -141,7 +143,7 @@ fn slot_of(key: Key) -> usize
 // The place of the key that is written so among all keys.
 fn slot_named(text: &str) -> Option<usize>
     ensures place { result ≡ position_from (λ key. bytes_eq text.now (key_text key)) 0 all_keys }
-    ensures within { IfSome result (λ i. i < 28) }
+    ensures within { IfSome result (λ i. i < 30) }
 {
     ALL_KEYS
         .iter()

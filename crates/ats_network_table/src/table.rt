@@ -1,7 +1,7 @@
 //! The tables of a network file.
 
 ghost use Rattle.std.specs.Prelude.{◌≡◌};
-ghost use Rattle.ats_network_table.specs.Words.{bridge_keys, stream_keys};
+ghost use Rattle.ats_network_table.specs.Words.{top_keys, bridge_keys, stream_keys};
 
 use crate::format::Format;
 use crate::key::Key;
@@ -19,8 +19,12 @@ pub enum Table {
     Link,
     /// A stream.
     Stream,
+    /// A stream for each port.
+    LinkLocal,
     /// A best-effort flow.
     Flow,
+    /// A best-effort flow for each port.
+    LinkLocalFlow,
 }
 
 impl Table {
@@ -36,7 +40,9 @@ impl Table {
             Table::Bridge => "bridge",
             Table::Link => "link",
             Table::Stream => "stream",
+            Table::LinkLocal => "link_local",
             Table::Flow => "flow",
+            Table::LinkLocalFlow => "link_local_flow",
         }
     }
 
@@ -45,20 +51,49 @@ impl Table {
         ensures { result.now ≡ keys_of format self.now }
     {
         match self {
-            Table::Top => &[
-                Key::Format,
-                Key::Station,
-                Key::Bridge,
-                Key::Link,
-                Key::Stream,
-                Key::Flow,
-            ],
+            Table::Top => top_keys(format),
             Table::Station => &[Key::Name],
             Table::Bridge => bridge_keys(format),
             Table::Link => &[Key::A, Key::B, Key::Mbps, Key::PropagationNs],
             Table::Stream => stream_keys(format),
+            Table::LinkLocal => &[
+                Key::Name,
+                Key::Class,
+                Key::RateBps,
+                Key::BurstBits,
+                Key::MinOctets,
+                Key::MaxOctets,
+                Key::DeadlineNs,
+            ],
             Table::Flow => &[Key::Name, Key::Path, Key::From, Key::To, Key::MaxOctets],
+            Table::LinkLocalFlow => &[Key::Name, Key::MaxOctets],
         }
+    }
+}
+
+// The keys of the top table in files of a format.
+fn top_keys(format: Format) -> &'static [Key]
+    ensures { result.now ≡ top_keys format }
+{
+    match format {
+        Format::One | Format::Two => &[
+            Key::Format,
+            Key::Station,
+            Key::Bridge,
+            Key::Link,
+            Key::Stream,
+            Key::Flow,
+        ],
+        Format::Three => &[
+            Key::Format,
+            Key::Station,
+            Key::Bridge,
+            Key::Link,
+            Key::Stream,
+            Key::LinkLocal,
+            Key::Flow,
+            Key::LinkLocalFlow,
+        ],
     }
 }
 

@@ -10,5 +10,7 @@ arrays_view a = record {
   bridges = tables_of a.bridges;
   links = tables_of a.links;
   streams = tables_of a.streams;
+  link_locals = tables_of a.link_locals;
   flows = tables_of a.flows;
+  link_local_flows = tables_of a.link_local_flows;
 }

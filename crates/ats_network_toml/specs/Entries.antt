@@ -1,11 +1,13 @@
 use Rattle.std.specs.Prelude.{List, [], ◌∷◌, map, Result, Ok, if◌then◌else◌}
 use Rattle.ats_num.specs.Failure.{◌>>=◌}
-use Rattle.ats_network_table.specs.Walk.{Entry, has, formed, name_at, short_at, long_at, path_at, classes_at}
+use Rattle.ats_network_table.specs.Walk.{Entry, has, formed, name_at, short_at, short_name_at, long_at, path_at}
+use Rattle.ats_network_table.specs.Walk.{classes_at}
 use Rattle.ats_network_table.specs.Walk.{deadline_at, has_paths, identity_at, listeners_at, paths_at}
 use Rattle.ats_network_table.specs.Words.{least_processing_key, greatest_processing_key}
 use Rattle.ats_network_table.specs.declared.key.Key.TheVariants as key
 use Rattle.ats_network_table.specs.declared.fault.DocumentFault.{DocumentFault}
-use Rattle.ats_network_toml.specs.Document.{DeclaredRoute, path, ends, DeclaredStream, DeclaredFlow}
+use Rattle.ats_network_toml.specs.Document.{DeclaredRoute, path, ends, DeclaredStream, DeclaredFlow, DeclaredLinkLocal}
+use Rattle.ats_network_toml.specs.Document.{DeclaredLinkLocalFlow}
 use Rattle.ats_network_toml.specs.declared.entries.StationEntry.{StationEntry}
 use Rattle.ats_network_toml.specs.declared.entries.BridgeEntry.{BridgeEntry}
 use Rattle.ats_network_toml.specs.declared.entries.LinkEntry.{LinkEntry}
@@ -77,6 +79,29 @@ stream_in e = do
     deadline_ns = numbers.deadline_ns;
     identity = identity;
   })
+
+abbrev pub link_local_in : Entry → Result DeclaredLinkLocal DocumentFault
+link_local_in e = do
+  well ← formed e
+  name ← short_name_at e key.Name
+  class ← long_at e key.Class
+  numbers ← numbers_in e
+  Ok (record {
+    name = name;
+    class = class;
+    rate_bps = numbers.rate_bps;
+    burst_bits = numbers.burst_bits;
+    min_octets = numbers.min_octets;
+    max_octets = numbers.max_octets;
+    deadline_ns = numbers.deadline_ns;
+  })
+
+abbrev pub link_local_flow_in : Entry → Result DeclaredLinkLocalFlow DocumentFault
+link_local_flow_in e = do
+  well ← formed e
+  name ← short_name_at e key.Name
+  most ← long_at e key.MaxOctets
+  Ok (record { name = name; max_octets = most })
 
 abbrev pub flow_in : Entry → Result DeclaredFlow DocumentFault
 flow_in e = do

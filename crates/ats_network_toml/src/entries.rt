@@ -247,9 +247,9 @@ impl FromSection for StreamEntry {
     }
 }
 
-// The numbers of a stream.
+/// The numbers of a stream.
 #[derive(Clone, Copy)]
-pub(crate) struct StreamNumbers {
+pub struct StreamNumbers {
     rate_bps: u64,
     burst_bits: u64,
     min_octets: u64,
@@ -276,6 +276,97 @@ impl StreamNumbers {
             max_octets,
             deadline_ns,
         })
+    }
+}
+
+/// A stream for each port of the network, of which each goes along that port alone.
+#[derive(Drop)]
+pub struct LinkLocalEntry {
+    /// Its name, of at most 26 bytes: that of the stream at a port has `-` and the port's number behind it.
+    pub name: Name,
+    /// Its traffic class, 0 to 2^63 - 1: whether it is one is not judged here, nor the range of the other numbers.
+    pub class: u64,
+    /// Its committed rate in bits per second.
+    pub rate_bps: u64,
+    /// Its burst in bits.
+    pub burst_bits: u64,
+    /// The least octets of its frames.
+    pub min_octets: u64,
+    /// The most octets of its frames.
+    pub max_octets: u64,
+    /// Its deadline in nanoseconds; 1,000,000,000 where the file gives none.
+    pub deadline_ns: u64,
+}
+
+impl Model for LinkLocalEntry {
+    ghost use Rattle.ats_network_toml.specs.Document.{DeclaredLinkLocal, IsShortName};
+
+    ghost Value = { DeclaredLinkLocal };
+
+    ghost view = { λ s. record {
+      name = s.name;
+      class = s.class;
+      rate_bps = s.rate_bps;
+      burst_bits = s.burst_bits;
+      min_octets = s.min_octets;
+      max_octets = s.max_octets;
+      deadline_ns = s.deadline_ns;
+    } };
+
+    ghost invariant = { λ s. IsShortName s.name };
+}
+
+impl FromSection for LinkLocalEntry {
+    ghost use Rattle.ats_network_toml.specs.Entries.{link_local_in};
+
+    ghost reads = { link_local_in };
+
+    fn read(_alloc: Global, section: &Section) -> Result<Self, Failure<DocumentFault>> {
+        section.formed()?;
+        let name = section.short_name(Key::Name)?;
+        let class = section.long(Key::Class)?;
+        let numbers = StreamNumbers::read(section)?;
+        Ok(LinkLocalEntry {
+            name,
+            class,
+            rate_bps: numbers.rate_bps,
+            burst_bits: numbers.burst_bits,
+            min_octets: numbers.min_octets,
+            max_octets: numbers.max_octets,
+            deadline_ns: numbers.deadline_ns,
+        })
+    }
+}
+
+/// A best-effort flow for each port of the network, of which each goes along that port alone.
+#[derive(Drop)]
+pub struct LinkLocalFlowEntry {
+    /// Its name, of at most 26 bytes: that of the flow at a port has `-` and the port's number behind it.
+    pub name: Name,
+    /// The most octets of its frames.
+    pub max_octets: u64,
+}
+
+impl Model for LinkLocalFlowEntry {
+    ghost use Rattle.ats_network_toml.specs.Document.{DeclaredLinkLocalFlow, IsShortName};
+
+    ghost Value = { DeclaredLinkLocalFlow };
+
+    ghost view = { λ f. record { name = f.name; max_octets = f.max_octets } };
+
+    ghost invariant = { λ f. IsShortName f.name };
+}
+
+impl FromSection for LinkLocalFlowEntry {
+    ghost use Rattle.ats_network_toml.specs.Entries.{link_local_flow_in};
+
+    ghost reads = { link_local_flow_in };
+
+    fn read(_alloc: Global, section: &Section) -> Result<Self, Failure<DocumentFault>> {
+        section.formed()?;
+        let name = section.short_name(Key::Name)?;
+        let max_octets = section.long(Key::MaxOctets)?;
+        Ok(LinkLocalFlowEntry { name, max_octets })
     }
 }
 

@@ -8,5 +8,8 @@ pub mod reading;
 mod tables;
 
 pub use document::{Document, Parts};
-pub use entries::{BridgeEntry, FlowEntry, LinkEntry, Route, Routes, StationEntry, StreamEntry};
+pub use entries::{
+    BridgeEntry, FlowEntry, LinkEntry, LinkLocalEntry, LinkLocalFlowEntry, Route, Routes,
+    StationEntry, StreamEntry, StreamNumbers,
+};
 pub use reading::read_document;

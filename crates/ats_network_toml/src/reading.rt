@@ -6,9 +6,9 @@ ghost use Rattle.ats_num.specs.Failure.{or_fault, Gives, GivesSeen};
 ghost use Rattle.ats_network_toml.specs.ArraysView.{arrays_view};
 ghost use Rattle.ats_network_toml.specs.Reading.{tree_of, document_in, document_of, arrays_read};
 
-use crate::arrays::{Arrays, read_entries};
+use crate::arrays::{Arrays, read_entries, read_for_ports};
 use crate::document::{Document, MAX_FLOWS, MAX_LINKS, MAX_NODES, MAX_STREAMS};
-use ats_network_table::{DocumentFault, Format, Section, Table};
+use ats_network_table::{DocumentFault, Section, Table};
 use ats_num::Failure;
 use std::alloc::Global;
 
@@ -17,18 +17,17 @@ use std::alloc::Global;
 /// # Errors
 ///
 /// `NotToml` exactly where the bytes are no UTF-8 or no TOML document. Else the first fault of this
-/// walk: the top table, then the stations, the bridges, the links, the streams and the flows, each
-/// array in its order. At a table: the first missing key in the order of `Table::keys`; then
-/// `Unknown`, where a key stands there that is none of these; then the first key of the wrong kind
-/// in that order. On reaching an array with more entries than its limit: `Limit`, with the bridges
-/// counted on from the stations.
+/// walk: the top table, then the stations, the bridges, the links, the streams, those for each port,
+/// the flows and those for each port, each array in its order. At a table: the first missing key in
+/// the order of `Table::keys`; then `Unknown`, where a key stands there that is none of these; then
+/// the first key of the wrong kind in that order. On reaching an array with more entries than its
+/// limit: `Limit`, with the bridges counted on from the stations, and entries for each port by the
+/// ports that the links have, on from the streams or flows.
 pub fn read_document(alloc: Global, bytes: &[u8]) -> Result<Document, Failure<DocumentFault>>
     ensures { Gives result (document_of bytes.now) }
 {
     let tree = tree_of(alloc, bytes)?;
-    // The top table has the same keys in each format.
-    let top = Section::new(Format::One, Table::Top, 0, &tree);
-    let arrays = Arrays::read(&top)?;
+    let arrays = Arrays::read(&Section::top(&tree))?;
     arrays_read(alloc, &arrays)
 }
 
@@ -52,7 +51,7 @@ fn tree_of(alloc: Global, bytes: &[u8]) -> Result<toml::Table, Failure<DocumentF
     }
 }
 
-// The entries of all arrays.
+// The format and the entries of all arrays.
 fn arrays_read(alloc: Global, arrays: &Arrays) -> Result<Document, Failure<DocumentFault>>
     ensures { Gives result (arrays_read (arrays_view arrays.now)) }
 {
@@ -73,12 +72,31 @@ fn arrays_read(alloc: Global, arrays: &Arrays) -> Result<Document, Failure<Docum
         MAX_STREAMS,
         &arrays.streams,
     )?;
+    let link_local_list = read_for_ports(
+        alloc,
+        arrays.format,
+        Table::LinkLocal,
+        stream_list.len(),
+        link_list.len(),
+        &arrays.link_locals,
+    )?;
     let flow_list = read_entries(alloc, arrays.format, Table::Flow, MAX_FLOWS, &arrays.flows)?;
+    let link_local_flow_list = read_for_ports(
+        alloc,
+        arrays.format,
+        Table::LinkLocalFlow,
+        flow_list.len(),
+        link_list.len(),
+        &arrays.link_local_flows,
+    )?;
     Ok(Document {
+        version: arrays.format,
         station_list,
         bridge_list,
         link_list,
         stream_list,
+        link_local_list,
         flow_list,
+        link_local_flow_list,
     })
 }

@@ -2,7 +2,7 @@ use Rattle.std.proofs.Common.{◌≡◌, ◌+◌, length, drop}
 use Rattle.ats_network_toml.specs.Views.{tables_of}
 use Rattle.ats_network_toml.specs.Reading.{entries_from}
 use Rattle.ats_network_toml.proofs.Joined.{behind}
-use Rattle.ats_network_toml.proofs.arrays.read_entries.Given as goal
+use Rattle.ats_network_toml.proofs.arrays.entries_of.Given as goal
 
 -- there is an entry for each table before, and the entries left, behind those read, are all entries
 abbrev pub invariant-loop-place : goal.invariant-loop-place
