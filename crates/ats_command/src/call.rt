@@ -34,8 +34,9 @@ pub fn ats<F: Files, O: Sink>(alloc: Global, words: &[String], files: &mut F, ou
 
     // Done to `check NET CERT` has printed the bounds and sums of the rows that the files declare for a network. They
     // are sound in each legal run of it, and there each frame of a stream whose talker keeps its buckets arrives at
-    // each listener within the sum for it and within the deadline. Done to `lrq check NET CERT` has done so for runs in
-    // which bridges have length-rate-quotient regulators, and for talkers that keep their spacing.
+    // each listener within the sum for it and within the deadline, where the bridges on the way keep theirs. Done to
+    // `lrq check NET CERT` has done so for runs in which bridges have length-rate-quotient regulators, and for talkers
+    // that keep their spacing.
     ensures sound { result ≡ Status.Done
         → PrintsAsPromised (F.told files.old) (named words.now) (O.held out.old) (O.held out.new) }
 

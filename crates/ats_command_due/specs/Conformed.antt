@@ -13,7 +13,7 @@ use Rattle.ats_command_input.specs.declared.outcome.Stop.{Stop}
 use Rattle.ats_command_input.specs.declared.status.Status.TheVariants.{Done, Refused}
 use Rattle.ats_command_due.specs.Replayed.{Scheduled}
 
--- the line of so many releases by which every station keeps its buckets
+-- the line of so many releases by which every node keeps its buckets
 abbrev pub conforms_text : ℕ → List ℕ
 conforms_text releases = codes "conforms " ++ decimal releases ++ codes "\n"
 
@@ -22,12 +22,12 @@ abbrev pub broken_text : Broken → List ℕ
 broken_text (Size frame) = codes "size " ++ decimal frame
 broken_text (Bucket since frame) = codes "bucket " ++ decimal since ++ codes " " ++ decimal frame
 
--- done, with the number of releases, by which every station keeps its buckets
+-- done, with the number of releases, by which every node keeps its buckets
 pub record IsConforming (network : DeclaredNetwork) (releases : List Release) (answer : Answer) : Type 0 where
   pub keeps : AllKeepBuckets network releases
   pub done : answer ≡ record { status = Done; text = conforms_text (length releases) }
 
--- refused, with the first frame by which some station does not keep its buckets
+-- refused, with the first frame by which some node does not keep its buckets
 pub record IsBroken (network : DeclaredNetwork) (releases : List Release) (answer : Answer) (broken : Broken) : Type 0
   where
     pub breaks : Breaks network releases broken

@@ -68,5 +68,5 @@ admission_judged network asked =
 -- the same of the requests that a file of these bytes makes, unless it has a fault
 abbrev pub requests_judged : DeclaredNetwork → List ℕ → List ℕ → Result (List ℕ) Answer
 requests_judged network requests bytes = do
-  asked ← requests_in network.topology requests bytes
+  asked ← requests_in network requests bytes
   admission_judged network asked

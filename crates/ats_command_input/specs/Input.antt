@@ -56,11 +56,11 @@ releases_in network file bytes = do
   text ← bytes_in 33554432 file bytes
   declared_in file schedule.fault_text (releases_of network text)
 
--- the requests that a file of these bytes makes over a topology
-unfoldable pub requests_in : DeclaredTopology → List ℕ → List ℕ → Result (List Request) Answer
-requests_in topology file bytes = do
+-- the requests that a file of these bytes makes over a network
+unfoldable pub requests_in : DeclaredNetwork → List ℕ → List ℕ → Result (List Request) Answer
+requests_in network file bytes = do
   text ← bytes_in 16777216 file bytes
-  declared_in file requests.fault_text (requests_of topology text)
+  declared_in file requests.fault_text (requests_of network text)
 
 -- the records that a capture's file of these bytes has
 unfoldable pub records_in : List ℕ → List ℕ → Result (List Record) Answer

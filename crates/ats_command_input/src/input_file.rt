@@ -106,8 +106,8 @@ pub fn requests_in<F: Files>(
     files: &mut F,
 ) -> Result<Vec<Request>, Stop>
     ensures due { IfTold (F.told files.old file.now)
-        (λ bytes. Gives (λ requests. requests.items) result (requests_in network.now.topology file.now bytes)) }
-    ensures allowed { IfOk result (λ requests. All (MayAsk network.now.topology) requests.items) }
+        (λ bytes. Gives (λ requests. requests.items) result (requests_in network.now file.now bytes)) }
+    ensures allowed { IfOk result (λ requests. All (MayAsk network.now) requests.items) }
     ensures reads { ReadsFile F.told F.faults F.reads file.now files.old files.new result }
 {
     let bytes = bytes_in(alloc, file, MAX_BYTES, files)?;

@@ -6,7 +6,7 @@ use Rattle.std.specs.List.{All}
 use Rattle.std.specs.Option.{option_map}
 use Rattle.std.proofs.lemmas.List.{take-append-drop}
 use Rattle.ats_facts.proofs.Lists.{all_left}
-use Rattle.ats_topology.specs.Topology.{DeclaredTopology, IsTopology}
+use Rattle.ats_topology.specs.Topology.{IsTopology}
 use Rattle.ats_network.specs.Network.{DeclaredNetwork, IsNetwork}
 use Rattle.ats_tally.specs.declared.reason.Reason.{Reason}
 use Rattle.ats_bound.specs.Least.{least_certificate}
@@ -36,13 +36,13 @@ use Rattle.ats_command_law.proofs.Answered.{AreAsked, are_answers}
 use Rattle.ats_command_law.proofs.OneClass.{requests_one}
 
 -- what requests a file makes may be asked, and where it makes none, it has a fault
-requests_give : (topology : DeclaredTopology) (name bytes : List ℕ) → IsTopology topology
-    → MatchResult (requests_in topology name bytes) (AreAsked topology) IsInput
+requests_give : (network : DeclaredNetwork) (name bytes : List ℕ) → IsTopology network.topology
+    → MatchResult (requests_in network name bytes) (AreAsked network) IsInput
 unfolding requests_in
-requests_give topology name bytes is =
-    file_gives 16777216 name bytes file.fault_text (requests_of topology) (AreAsked topology)
+requests_give network name bytes is =
+    file_gives 16777216 name bytes file.fault_text (requests_of network) (AreAsked network)
     (λ text asked read.
-    record { may = requests_may topology text asked is read; one = requests_one topology text asked read })
+    record { may = requests_may network text asked is read; one = requests_one network text asked read })
 
 soundly_bounded : (network : DeclaredNetwork) → IsCertified network → IsSoundlyBounded network
 soundly_bounded network is =
@@ -56,18 +56,18 @@ soundly_bounded network is =
 
 -- so it is after the first so many requests
 sound_after : (network : DeclaredNetwork) (asked : List Request) → IsCertified network
-    → All (MayAsk network.topology) asked → (k : ℕ) → IsSoundlyBounded (network_after network asked k)
+    → All (MayAsk network) asked → (k : ℕ) → IsSoundlyBounded (network_after network asked k)
 sound_after network asked is may k =
     soundly_bounded (network_after network asked k)
     (requests_keep network (take k asked) is
-    (all_left (MayAsk network.topology) (take k asked) (drop k asked)
-    (subst (λ (rs : List Request). All (MayAsk network.topology) rs) (sym (take-append-drop k asked)) may))).certified
+    (all_left (MayAsk network) (take k asked) (drop k asked)
+    (subst (λ (rs : List Request). All (MayAsk network) rs) (sym (take-append-drop k asked)) may))).certified
 
 -- where both files declare what they should
 judged_admission : (net requests net_bytes requests_bytes : List ℕ) (network : DeclaredNetwork) (asked : List Request)
     (reason : Option Reason) → network_in net net_bytes ≡ Ok network
-    → requests_in network.topology requests requests_bytes ≡ Ok asked → IsNetwork network
-    → AreAsked network.topology asked → reason_of network ≡ reason
+    → requests_in network requests requests_bytes ≡ Ok asked → IsNetwork network
+    → AreAsked network asked → reason_of network ≡ reason
     → (let answer = settled (judged (admission_text network asked)
     (option_map (reason_text network.topology) reason))
     in AdmitSays net requests net_bytes requests_bytes answer.text answer.status)
@@ -99,8 +99,8 @@ judged_admission net requests net_bytes requests_bytes network asked (Some reaso
 -- where the first declares a network
 requests_say : (net requests net_bytes requests_bytes : List ℕ) (network : DeclaredNetwork)
     (made : Result (List Request) Answer) → network_in net net_bytes ≡ Ok network → IsNetwork network
-    → requests_in network.topology requests requests_bytes ≡ made
-    → MatchResult made (AreAsked network.topology) IsInput
+    → requests_in network requests requests_bytes ≡ made
+    → MatchResult made (AreAsked network) IsInput
     → (let answer = settled (made >>= λ asked. admission_judged network asked)
     in AdmitSays net requests net_bytes requests_bytes answer.text answer.status)
 unfolding admission_judged
@@ -112,19 +112,19 @@ requests_say net requests net_bytes requests_bytes network (Err answer) declared
       network,
       record {
         network_declared = declared;
-        no_requests = none_declared (requests_in network.topology requests requests_bytes) answer is;
+        no_requests = none_declared (requests_in network requests requests_bytes) answer is;
       },
     ))
 
 admit_says : (net requests net_bytes requests_bytes : List ℕ) (declared : Result DeclaredNetwork Answer)
     → network_in net net_bytes ≡ declared → MatchResult declared IsNetwork IsInput
-    → (let answer = settled (declared >>= λ network. requests_in network.topology requests requests_bytes
+    → (let answer = settled (declared >>= λ network. requests_in network requests requests_bytes
     >>= λ asked. admission_judged network asked)
     in AdmitSays net requests net_bytes requests_bytes answer.text answer.status)
 admit_says net requests net_bytes requests_bytes (Ok network) is rules =
     requests_say net requests net_bytes requests_bytes network
-    (requests_in network.topology requests requests_bytes) is rules refl
-    (requests_give network.topology requests requests_bytes rules.topology)
+    (requests_in network requests requests_bytes) is rules refl
+    (requests_give network requests requests_bytes rules.topology)
 admit_says net requests net_bytes requests_bytes (Err answer) is input =
     subst (AdmitSays net requests net_bytes requests_bytes answer.text) (sym input)
     (inl (none_declared (network_in net net_bytes) answer is))

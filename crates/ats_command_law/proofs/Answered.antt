@@ -11,7 +11,6 @@ use Rattle.std.proofs.lemmas.Option.{none-some, same_Some}
 use Rattle.ats_facts.proofs.Options.{is_some-false}
 use Rattle.ats_num.specs.Failure.{unless}
 use Rattle.ats_num.specs.Places.{place_of}
-use Rattle.ats_topology.specs.Topology.{DeclaredTopology}
 use Rattle.ats_topology.proofs.Known.{name_there}
 use Rattle.ats_streams.specs.Stream.{DeclaredStream, with_class}
 use Rattle.ats_network.specs.Edits.{less_at, no_stream, without_named}
@@ -38,7 +37,7 @@ use Rattle.ats_requests.specs.declared.request.Request.{Request}
 use Rattle.ats_requests.specs.declared.request.Request.TheVariants.{Admit, Lowest, Withdraw}
 use Rattle.ats_requests.proofs.Classes.{lowest_is_first, no_class_has_reasons}
 use Rattle.ats_requests.proofs.Keeps.{entered, enters_with}
-use Rattle.ats_requests.proofs.Requests.{request_keeps}
+use Rattle.ats_requests.proofs.Requests.{may_still, request_keeps}
 use Rattle.ats_command_law.specs.AdmitMeaning.{AreAnswers, network_after}
 use Rattle.ats_command_law.specs.Answered.{AdmitDenied, AdmitTells, AreFirstReasons, HasFirstReason}
 use Rattle.ats_command_law.specs.Answered.{IsFull, IsNameFree, IsNameTaken, LowestDenied, LowestTells, AnswerTells}
@@ -95,14 +94,14 @@ entry_denies P network stream taken full denied h =
 
 -- where nothing stands against the entry of a stream, the reason that is found against the network with it is the first
 reason_is_first : (network : DeclaredNetwork) (stream : DeclaredStream) (reason : Reason) → IsNetwork network
-    → MayEnter network.topology stream → entry_fault network stream ≡ None
+    → MayEnter network stream → entry_fault network stream ≡ None
     → reason_with network stream ≡ Some reason → HasFirstReason (with_stream network stream) reason
 reason_is_first network stream reason is may none found =
     let rules : IsNetwork (with_stream network stream) = entered network stream is may none in
     record { rules = rules; first = (each_reason_is_the_first (with_stream network stream) reason rules).0 found }
 
 admit_denies : (network : DeclaredNetwork) (stream : DeclaredStream) (denied : Denied) → IsNetwork network
-    → MayEnter network.topology stream → admit_fault network stream ≡ Some denied
+    → MayEnter network stream → admit_fault network stream ≡ Some denied
     → AdmitDenied network stream denied
 admit_denies network stream denied is may h =
     by (entry_fault network stream) refl (reason_with network stream) refl h
@@ -118,7 +117,7 @@ admit_denies network stream denied is may h =
 
 -- so it is where a stream is refused for a reason
 refused_first : (network : DeclaredNetwork) (stream : DeclaredStream) (reason : Reason) → IsNetwork network
-    → MayEnter network.topology stream → admit network stream ≡ Err (Because reason)
+    → MayEnter network stream → admit network stream ≡ Err (Because reason)
     → HasFirstReason (with_stream network stream) reason
 refused_first network stream reason is may h = by (admit_fault network stream) refl h
   where
@@ -132,7 +131,7 @@ refused_first network stream reason is may h = by (admit_fault network stream) r
 
 -- the answer to a stream with its class
 admit_tells : (network : DeclaredNetwork) (stream : DeclaredStream) → IsNetwork network
-    → MayEnter network.topology stream → IsOfOneClass stream
+    → MayEnter network stream → IsOfOneClass stream
     → AdmitTells network (after network (Admit stream)) stream (answer network (Admit stream))
 admit_tells network stream is may one = by (admit_fault network stream) refl
   where
@@ -150,7 +149,7 @@ admit_tells network stream is may one = by (admit_fault network stream) refl
 
 -- why a stream gets no class
 lowest_denies : (network : DeclaredNetwork) (stream : DeclaredStream) (denied : Denied) → IsNetwork network
-    → MayEnter network.topology stream → lowest_class network stream ≡ Err denied
+    → MayEnter network stream → lowest_class network stream ≡ Err denied
     → LowestDenied network stream denied
 lowest_denies network stream denied is may h =
     by (entry_fault network stream) refl (lowest_of network stream stream_classes) h
@@ -163,7 +162,7 @@ lowest_denies network stream denied is may h =
         record {
           seven = are.seven;
           each = λ n d below. refused_first network (with_class stream (n + 1)) (get_or reasons n d) is
-              (enters_with network.topology stream (n + 1) may
+              (enters_with network stream (n + 1) may
               (record { least = omega arith; most = omega (arith, below) })) (are.each n d below);
         }
 
@@ -180,7 +179,7 @@ lowest_denies network stream denied is may h =
 
 -- the answer to a stream with the lowest class
 lowest_tells : (network : DeclaredNetwork) (stream : DeclaredStream) → IsNetwork network
-    → MayEnter network.topology stream
+    → MayEnter network stream
     → LowestTells network (after network (Lowest stream)) stream (answer network (Lowest stream))
 lowest_tells network stream is may = by (lowest_class network stream) refl
   where
@@ -198,7 +197,7 @@ lowest_tells network stream is may = by (lowest_class network stream) refl
               let refused = first.lower c least less in (
                 refused.reason,
                 refused_first network (with_class stream c) refused.reason is
-                    (enters_with network.topology stream c may
+                    (enters_with network stream c may
                     (record { least = least; most = omega (arith, less, first.is_class.most) })) refused.refused,
               ));
         }
@@ -227,15 +226,15 @@ withdraw_tells network name = by (place_of name (stream_names network.streams)) 
         }
 
 tells : (network : DeclaredNetwork) (request : Request) → IsNetwork network
-    → MayAsk network.topology request → AsksOneClass request
+    → MayAsk network request → AsksOneClass request
     → AnswerTells network (after network request) request (answer network request)
 tells network (Admit stream) is may one = admit_tells network stream is may one
 tells network (Lowest stream) is may one = lowest_tells network stream is may
 tells network (Withdraw name) is may one = withdraw_tells network name
 
--- requests that may be asked over a topology, each for a stream with one class
-pub record AreAsked (topology : DeclaredTopology) (asked : List Request) : Type 0 where
-  pub may : All (MayAsk topology) asked
+-- requests that may be asked over a network, each for a stream with one class
+pub record AreAsked (network : DeclaredNetwork) (asked : List Request) : Type 0 where
+  pub may : All (MayAsk network) asked
   pub one : All AsksOneClass asked
 
 -- what is answered to the first request, and to those behind it
@@ -258,15 +257,14 @@ answers_from network request asked first later =
         (let e : suc (k + 1) ≡ suc k + 1 = omega arith in e) (later.each k r a asks gives)
 
 pub are_answers : (network : DeclaredNetwork) (asked : List Request) → IsCertified network
-    → AreAsked network.topology asked → AreAnswers network asked
+    → AreAsked network asked → AreAnswers network asked
 are_answers network [] is are = record { as_many = refl; each = λ k r a asks gives. absurd (none-some r asks) }
 are_answers network (request ∷ asked) is are =
     let next : DeclaredNetwork = after network request in
-    let may : MayAsk network.topology request = All-head (MayAsk network.topology) request asked are.may in
+    let may : MayAsk network request = All-head (MayAsk network) request asked are.may in
     let keeps = request_keeps network request is may in
-    let rest : All (MayAsk next.topology) asked =
-    subst (λ (t : DeclaredTopology). All (MayAsk t) asked) (sym keeps.topology)
-    (All-tail (MayAsk network.topology) request asked are.may) in
+    let rest : All (MayAsk next) asked =
+    may_still network next asked keeps.topology keeps.most_ports (All-tail (MayAsk network) request asked are.may) in
     answers_from network request asked
     (tells network request is.rules may (All-head AsksOneClass request asked are.one))
     (are_answers next asked keeps.certified (record {

@@ -13,14 +13,14 @@ use Rattle.ats_command_due.specs.Conformed.{IsAnswerTo, JudgesReleases, JudgesSc
 use Rattle.ats_command_law.specs.ConformBounds.{ConformKeepsBounds}
 use Rattle.ats_command_due.specs.Due.{told_bytes}
 use Rattle.ats_command_due.specs.Replayed.{scheduled_in}
-use Rattle.ats_command_law.proofs.ReplayMeanings.{replay_keeps_bounds}
+use Rattle.ats_command_law.proofs.ReplayMeanings.{replay_keeps_bounds, within_all}
 
 done_is_not_refused : (text : List ℕ) (answer : Answer) → answer ≡ record { status = Refused; text = text }
     → answer.status ≡ Done → ⊥
 done_is_not_refused text answer h done =
     let clash : answer.status ≡ Refused = ap (λ (a : Answer). a.status) h in cc
 
--- an answer that is done says that every station keeps its buckets
+-- an answer that is done says that every node keeps its buckets
 pub done_keeps : (network : DeclaredNetwork) (releases : List Release) (text : List ℕ)
     → JudgesReleases network releases (record { status = Done; text = text }) → AllKeepBuckets network releases
 done_keeps network releases text (inl conforming) = conforming.keeps
@@ -58,7 +58,6 @@ conform_keeps_bounds told net certificate schedule order conformed checked repla
       record {
         texts = all.4;
         keeps = keeps;
-        within = λ journey there stream named. all.4.within journey there stream named
-            (keeps (talker_of network journey.release.sender));
+        within = within_all network all.1 releases all.3 all.4.within keeps;
       },
     )

@@ -113,7 +113,7 @@ fit_means none_over net schedule net_bytes schedule_bytes answer one =
 refused_is_not : ◌≡◌ {A = Status} Refused Done → ⊥
 refused_is_not h = cc
 
--- an answer that judges releases is done exactly where every station keeps its buckets
+-- an answer that judges releases is done exactly where every node keeps its buckets
 done_where_kept : (network : DeclaredNetwork) (releases : List Release) (judged : Answer)
     → JudgesReleases network releases judged → (judged.status ≡ Done) ↔ AllKeepBuckets network releases
 done_where_kept network releases judged (inl is) =

@@ -34,28 +34,28 @@ some_stream : (n : ℕ) (rest : Option GenFault) → (if n == 0 then Some NoStre
 some_stream zero rest h = cc
 some_stream (suc n) rest h = omega arith
 
--- by releases that are made every station keeps its buckets
+-- by releases that are made every node keeps its buckets
 made_keep : (network : DeclaredNetwork) (seed count : ℕ) (releases : List Release) → IsNetwork network
     → gen_fault network seed count ≡ None → AreMade network seed count releases → AllKeepBuckets network releases
 made_keep network seed count releases rules none made =
     made-keeps network seed count releases (streams-ruled network rules)
     (some_stream (length network.streams) _ none) made
 
--- in a run with releases by which every station keeps its buckets, each delay is within the least bounds
+-- in a run with releases by which every node keeps its buckets, each delay is within the least bounds
 within_least : (network : DeclaredNetwork) (releases : List Release) (run : List Travel) → IsNetwork network
     → AllKeepBuckets network releases → IsRunIn Early network releases run → AreWithinLeast network run
 within_least network releases run rules keeps is (rows, held) journey there stream named =
     let none = no_reason_held network rows rules held in
     let holds = (least_certificate_holds network rules none).holds in
     let legal = is.by_order.legal in
-    let kept : KeepsBuckets network (runs.releases_of run) (talker_of network journey.release.sender) =
-    subst (λ (rs : List Release). KeepsBuckets network rs (talker_of network journey.release.sender))
-    (sym is.exactly) (keeps (talker_of network journey.release.sender)) in
+    let kept : (node : ℕ) → KeepsBuckets network (runs.releases_of run) node =
+    λ node. subst (λ (rs : List Release). KeepsBuckets network rs node) (sym is.exactly) (keeps node) in
     record {
-      served = (certificate_is_sound network (least_certificate network) rules holds).served run legal journey there
-          (slice_get_within network.streams journey.release.sender stream named) kept;
-      in_time = holding_is_in_time network (least_certificate network) rules holds run legal journey there stream
-          named kept;
+      served = λ m within. (certificate_is_sound network (least_certificate network) rules holds).served run legal
+          journey there (slice_get_within network.streams journey.release.sender stream named)
+          (kept (talker_of network journey.release.sender)) m within (λ k d h bridge. kept _);
+      in_time = λ m within. holding_is_in_time network (least_certificate network) rules holds run legal journey there
+          stream named (kept (talker_of network journey.release.sender)) m within (λ k d h bridge. kept _);
     }
 
 -- where the file declares a network

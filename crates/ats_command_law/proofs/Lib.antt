@@ -13,6 +13,7 @@ pub mod AdmitMeanings
 pub mod Surely
 pub mod ConformMeanings
 pub mod CaptureMeanings
+pub mod CaptureBridges
 pub mod CaptureBounds
 pub mod ExplainMeanings
 pub mod WorstBound

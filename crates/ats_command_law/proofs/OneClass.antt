@@ -7,8 +7,8 @@ use Rattle.std.specs.Str.{bytes_eq}
 use Rattle.std.proofs.lemmas.List.Elements.{All-nil, All-push}
 use Rattle.ats_num.specs.Failure.{◌>>=◌, ok_where}
 use Rattle.ats_io.specs.Text.{lines_of, words_of}
-use Rattle.ats_topology.specs.Topology.{DeclaredTopology}
-use Rattle.ats_streams.specs.Stream.{DeclaredStream, classes_for, declared_stream, stream_fault, with_class}
+use Rattle.ats_network.specs.Network.{DeclaredNetwork}
+use Rattle.ats_streams.specs.Stream.{DeclaredStream, classes_for, declared_stream, stream_fault_within, with_class}
 use Rattle.ats_network_file.proofs.Steps.{Given, Sound, both, ok_where_ok, unless_ok}
 use Rattle.ats_requests.specs.Requests.{first_class_of}
 use Rattle.ats_requests.specs.declared.request.Request.{Request}
@@ -46,19 +46,21 @@ made_one : (class : Option ℕ) (stream made : DeclaredStream) (request : Reques
 made_one class stream made request one same is =
     subst AsksOneClass is (asked_one class made (subst IsOfOneClass same one))
 
-admit_one : (topology : DeclaredTopology) (n : ℕ) (words : List (List ℕ)) (request : Request)
-    → admit_line topology n words ≡ Ok request → AsksOneClass request
-admit_one topology n words request h =
+admit_one : (network : DeclaredNetwork) (n : ℕ) (words : List (List ℕ)) (request : Request)
+    → admit_line network n words ≡ Ok request → AsksOneClass request
+admit_one network n words request h =
     let said = both (admit_in n words)
-    (λ said. path_in topology n words >>= λ path. stream_made n said (stream_over path said)
+    (λ said. path_in network.topology n words >>= λ path. stream_made network.most_ports n said (stream_over path said)
     >>= λ stream. Ok (asked said.class stream)) request h in
-    let path = both (path_in topology n words)
-    (λ path. stream_made n said.first (stream_over path said.first)
+    let path = both (path_in network.topology n words)
+    (λ path. stream_made network.most_ports n said.first (stream_over path said.first)
     >>= λ stream. Ok (asked said.first.class stream)) request said.then in
     let stream : DeclaredStream = stream_over path.first said.first in
-    let made = both (stream_made n said.first stream) (λ s. Ok (asked said.first.class s)) request path.then in
-    let sound : Sound (stream_fault (made_class said.first ∷ []) stream) stream made.first =
-    unless_ok (faults.Stream n) (stream_fault (made_class said.first ∷ []) stream) stream made.first made.is in
+    let made = both (stream_made network.most_ports n said.first stream)
+    (λ s. Ok (asked said.first.class s)) request path.then in
+    let sound : Sound (stream_fault_within network.most_ports (made_class said.first ∷ []) stream) stream made.first =
+    unless_ok (faults.Stream n) (stream_fault_within network.most_ports (made_class said.first ∷ []) stream) stream
+    made.first made.is in
     let is_asked : asked said.first.class made.first ≡ request = let e = made.then in cc in
     made_one said.first.class stream made.first request
     (over_one said.first.name path.first (made_class said.first) said.first.rate_bps said.first.burst_bits
@@ -73,48 +75,48 @@ withdraw_one n words request h =
     ok_where_ok (length words == 2) (BadLine n) (Withdraw name.first) request name.then in
     subst AsksOneClass given.same tt
 
-request_one : (topology : DeclaredTopology) (n : ℕ) (words : List (List ℕ)) (request : Request)
-    → request_in topology n words ≡ Ok request → AsksOneClass request
-request_one topology n words request =
+request_one : (network : DeclaredNetwork) (n : ℕ) (words : List (List ℕ)) (request : Request)
+    → request_in network n words ≡ Ok request → AsksOneClass request
+request_one network n words request =
     by (bytes_eq (word words 0) (codes "admit")) (bytes_eq (word words 0) (codes "withdraw"))
   where
     by : (a b : Bool)
-        → cond a (admit_line topology n words) (cond b (withdraw_line n words) (Err (BadLine n))) ≡ Ok request
+        → cond a (admit_line network n words) (cond b (withdraw_line n words) (Err (BadLine n))) ≡ Ok request
         → AsksOneClass request
-    by true b h = admit_one topology n words request h
+    by true b h = admit_one network n words request h
     by false true h = withdraw_one n words request h
     by false false h = cc
 
 -- so do those so far, with the one that a line makes
-line_one : (topology : DeclaredTopology) (requests : List Request) (n : ℕ) (line : List ℕ) (more : List Request)
-    → All AsksOneClass requests → with_line topology requests n line ≡ Ok more → All AsksOneClass more
-line_one topology requests n line more all = by (is_skipped line)
+line_one : (network : DeclaredNetwork) (requests : List Request) (n : ℕ) (line : List ℕ) (more : List Request)
+    → All AsksOneClass requests → with_line network requests n line ≡ Ok more → All AsksOneClass more
+line_one network requests n line more all = by (is_skipped line)
   where
-    by : (b : Bool) → cond b (Ok requests) (asked_in topology (length requests) n (words_of line)
+    by : (b : Bool) → cond b (Ok requests) (asked_in network (length requests) n (words_of line)
         >>= λ request. Ok (requests ++ request ∷ [])) ≡ Ok more → All AsksOneClass more
     by true h = let same : requests ≡ more = cc in subst (All AsksOneClass) same all
     by false h =
-        let made = both (asked_in topology (length requests) n (words_of line))
+        let made = both (asked_in network (length requests) n (words_of line))
         (λ request. Ok (requests ++ request ∷ [])) more h in
-        let read = both (request_in topology n (words_of line))
+        let read = both (request_in network n (words_of line))
         (λ request. ok_where (nat_lt (length requests) 10000) (Limit n) request) made.first made.is in
         let given : Given (nat_lt (length requests) 10000) read.first made.first =
         ok_where_ok (nat_lt (length requests) 10000) (Limit n) read.first made.first read.then in
         let same : requests ++ made.first ∷ [] ≡ more = let e = made.then in cc in
         subst (All AsksOneClass) same
         (All-push AsksOneClass requests made.first all
-        (subst AsksOneClass given.same (request_one topology n (words_of line) read.first read.is)))
+        (subst AsksOneClass given.same (request_one network n (words_of line) read.first read.is)))
 
-from_one : (topology : DeclaredTopology) (before : List Request) (n : ℕ) (lines : List (List ℕ))
-    (requests : List Request) → All AsksOneClass before → requests_from topology before n lines ≡ Ok requests
+from_one : (network : DeclaredNetwork) (before : List Request) (n : ℕ) (lines : List (List ℕ))
+    (requests : List Request) → All AsksOneClass before → requests_from network before n lines ≡ Ok requests
     → All AsksOneClass requests
-from_one topology before n [] requests all h =
+from_one network before n [] requests all h =
     let same : before ≡ requests = cc in subst (All AsksOneClass) same all
-from_one topology before n (line ∷ lines) requests all h =
-    let one = both (with_line topology before n line) (λ more. requests_from topology more (n + 1) lines) requests h in
-    from_one topology one.first (n + 1) lines requests (line_one topology before n line one.first all one.is) one.then
+from_one network before n (line ∷ lines) requests all h =
+    let one = both (with_line network before n line) (λ more. requests_from network more (n + 1) lines) requests h in
+    from_one network one.first (n + 1) lines requests (line_one network before n line one.first all one.is) one.then
 
-pub requests_one : (topology : DeclaredTopology) (text : List ℕ) (requests : List Request)
-    → requests_of topology text ≡ Ok requests → All AsksOneClass requests
-requests_one topology text requests h =
-    from_one topology [] 1 (lines_of text) requests (All-nil AsksOneClass) h
+pub requests_one : (network : DeclaredNetwork) (text : List ℕ) (requests : List Request)
+    → requests_of network text ≡ Ok requests → All AsksOneClass requests
+requests_one network text requests h =
+    from_one network [] 1 (lines_of text) requests (All-nil AsksOneClass) h

@@ -81,7 +81,7 @@ one_captured due one other h k = cc
 one_scheduled : (due : Result Scheduled Answer) (one other : Scheduled) → due ≡ Ok one → due ≡ Ok other → one ≡ other
 one_scheduled due one other h k = cc
 
--- where `conform` is done with the text, every station keeps its buckets by the releases of the capture
+-- where `conform` is done with the text, every node keeps its buckets by the releases of the capture
 released_keeps : (told : List ℕ → Option (List ℕ)) (net schedule conformed : List ℕ) (network : DeclaredNetwork)
     (releases : List Release)
     → scheduled_in net schedule (told_bytes told net) (told_bytes told schedule)
@@ -122,8 +122,7 @@ releases_keep_bounds = record {
           accepted = all.6;
           of_capture = all.7;
           keeps = keeps;
-          within = λ journey there stream named. all.8 journey there stream named
-              (keeps (talker_of network journey.release.sender));
+          within = λ journey there stream named. all.8 journey there stream named (keeps _);
         },
       );
   replay = λ told net certificate station file schedule order released conformed checked replayed told_on conform_due

@@ -1,12 +1,19 @@
 -- What the answers to `replay` mean, and what they have to do with those to `check`.
-use Rattle.std.proofs.Common.{◌≡◌, ℕ, List, Result, Ok, Err, refl, sym, ap, subst, inl, inr, ◌∙◌}
-use Rattle.std.specs.Prelude.{MatchResult}
+use Rattle.std.proofs.Common.{◌≡◌, ℕ, ◌<◌, List, Some, Result, Ok, Err, refl, sym, ap, subst, inl, inr, ◌∙◌}
+use Rattle.std.specs.Prelude.{Contains, MatchResult, slice_get}
 use Rattle.std.proofs.lemmas.Option.{slice_get_within}
 use Rattle.ats_network.specs.Network.{DeclaredNetwork, IsNetwork}
+use Rattle.ats_network.specs.Sender.{Sender, stream_sender}
+use Rattle.ats_network.specs.Senders.{sender_at}
+use Rattle.ats_verdict_text.specs.Stream.{DeclaredStream}
+use Rattle.ats_group.specs.Judge.{bucket_rule}
+use Rattle.ats_checker.proofs.InTime.{sender_of_stream}
+use Rattle.ats_soundness_law.specs.Sound.{BridgesKeep}
 use Rattle.ats_certificate.specs.declared.row.Row.{Row}
 use Rattle.ats_trace.specs.Journey.{Travel}
 use Rattle.ats_trace.specs.Run as runs
 use Rattle.ats_trace.specs.Talker.{talker_of, KeepsBuckets}
+use Rattle.ats_trace.specs.Ways.{listener_count, route_to}
 use Rattle.ats_trace.specs.declared.journey.Release.{Release}
 use Rattle.ats_schedule.specs.Reading.{releases_of}
 use Rattle.ats_schedule.specs.FaultText as schedule
@@ -18,6 +25,7 @@ use Rattle.ats_command_input.specs.declared.status.Status.TheVariants.{Done}
 use Rattle.ats_command_due.specs.Due.{told_bytes}
 use Rattle.ats_command_law.specs.Meaning.{CheckSays, IsAccepted}
 use Rattle.ats_command_law.specs.ReplayMeaning.{DelaysAreWithin, IsRunOut, ReplaySays, ReplayMeans, ReplayKeepsBounds}
+use Rattle.ats_command_law.specs.ReplayMeaning.{IsWithinBounds}
 use Rattle.ats_command_due.specs.Replayed.{IsOneOf, IsReplayed, IsRunIn, scheduled_in}
 use Rattle.ats_command_law.proofs.Meanings.{IsInput, file_gives, network_gives, none_declared, check_means}
 
@@ -90,15 +98,36 @@ pub delays_within : (net certificate net_bytes certificate_bytes checked : List 
     → IsAccepted net certificate net_bytes certificate_bytes checked network rows
     → IsRunIn order network releases run → DelaysAreWithin network rows releases run
 delays_within net certificate net_bytes certificate_bytes checked order network rows releases run accepted is =
-    λ journey there stream named keeps.
+    λ journey there stream named keeps m within bridges.
     let legal = is.by_order.legal in
-    let kept : KeepsBuckets network (runs.releases_of run) (talker_of network journey.release.sender) =
-    subst (λ (rs : List Release). KeepsBuckets network rs (talker_of network journey.release.sender))
-    (sym is.exactly) keeps in
+    let s : Sender = sender_at network journey.release.sender in
+    let same : s ≡ stream_sender stream = sender_of_stream network journey.release.sender stream named in
+    let kept : (node : ℕ) → KeepsBuckets network releases node → KeepsBuckets network (runs.releases_of run) node =
+    λ node keeps. subst (λ (rs : List Release). KeepsBuckets network rs node) (sym is.exactly) keeps in
+    let on_way : BridgesKeep bucket_rule network (runs.releases_of run) (route_to s m) =
+    λ k d h bridge. kept _ (bridges k d h bridge) in
     record {
       served = accepted.sound.served run legal journey there
-          (slice_get_within network.streams journey.release.sender stream named) kept;
-      in_time = accepted.in_time run legal journey there stream named kept;
+          (slice_get_within network.streams journey.release.sender stream named)
+          (kept (talker_of network journey.release.sender) keeps) m within on_way;
+      in_time = accepted.in_time run legal journey there stream named
+          (kept (talker_of network journey.release.sender) keeps) m
+          (subst (λ (x : Sender). m < listener_count x) same within)
+          (subst (λ (x : Sender). BridgesKeep bucket_rule network (runs.releases_of run) (route_to x m)) same on_way);
+    }
+
+-- where every node keeps its buckets, it is within them at each listener
+pub within_all : (network : DeclaredNetwork) (rows : List Row) (releases : List Release) (run : List Travel)
+    → DelaysAreWithin network rows releases run → ((node : ℕ) → KeepsBuckets network releases node)
+    → (journey : Travel) → Contains run journey → (stream : DeclaredStream)
+    → slice_get network.streams journey.release.sender ≡ Some stream → IsWithinBounds network rows stream journey
+within_all network rows releases run all keeps journey there stream named =
+    let same : sender_at network journey.release.sender ≡ stream_sender stream =
+    sender_of_stream network journey.release.sender stream named in
+    record {
+      served = λ m within. (all journey there stream named (keeps _) m within (λ k d h bridge. keeps _)).served;
+      in_time = λ m within. (all journey there stream named (keeps _) m
+          (subst (λ (x : Sender). m < listener_count x) (sym same) within) (λ k d h bridge. keeps _)).in_time;
     }
 
 -- what bytes declare they declare once

@@ -151,8 +151,8 @@ printed_worst_is_within network run rules legal keeps sender listener bound list
         ap (slice_get network.streams) same ∙ is.named in
         let holds : Holds network rows = (least_certificate_holds network rules is.none).holds in
         let time : ArrivesInTime rows is.stream j =
-        holding_is_in_time network rows rules holds run legal j there is.stream named
-        (keeps (talker_of network j.release.sender)) in
+        λ m within. holding_is_in_time network rows rules holds run legal j there is.stream named
+        (keeps (talker_of network j.release.sender)) m within (λ k d h bridge. keeps _) in
         let by : ArrivesBy (j.release.at.0 + bound) (way_to (stream_sender is.stream) j listener).ending =
         subst (λ (n : ℕ). ArrivesBy (j.release.at.0 + n) (way_to (stream_sender is.stream) j listener).ending)
         (sym is.sum) (time listener is.listed).sum in

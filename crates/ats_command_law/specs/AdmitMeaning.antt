@@ -41,7 +41,7 @@ pub record AreAnswers (network : DeclaredNetwork) (asked : List Request) : Type 
 pub record IsAdmission (net requests net_bytes requests_bytes text : List ℕ) (network : DeclaredNetwork)
     (asked : List Request) : Type 0 where
   pub network_declared : network_in net net_bytes ≡ Ok network
-  pub requests_made : requests_in network.topology requests requests_bytes ≡ Ok asked
+  pub requests_made : requests_in network requests requests_bytes ≡ Ok asked
   pub sound : (k : ℕ) → IsSoundlyBounded (network_after network asked k)
   pub answered : AreAnswers network asked
   pub written : text ≡ admission_text network asked
@@ -51,7 +51,7 @@ pub record IsAdmission (net requests net_bytes requests_bytes text : List ℕ) (
 pub record IsUncertified (net requests net_bytes requests_bytes text : List ℕ) (network : DeclaredNetwork)
     (asked : List Request) (reason : Reason) : Type 0 where
   pub network_declared : network_in net net_bytes ≡ Ok network
-  pub requests_made : requests_in network.topology requests requests_bytes ≡ Ok asked
+  pub requests_made : requests_in network requests requests_bytes ≡ Ok asked
   pub rules : IsNetwork network
   pub first : IsFirstReason network reason
   pub none_holds : (rows : List Row) → ¬ Holds network rows
@@ -60,7 +60,7 @@ pub record IsUncertified (net requests net_bytes requests_bytes text : List ℕ)
 -- the first declares this network, over which the second makes no requests
 pub record HasNoRequests (net requests net_bytes requests_bytes : List ℕ) (network : DeclaredNetwork) : Type 0 where
   pub network_declared : network_in net net_bytes ≡ Ok network
-  pub no_requests : IsErr (requests_in network.topology requests requests_bytes)
+  pub no_requests : IsErr (requests_in network requests requests_bytes)
 
 -- what an answer to `admit NET REQUESTS` says of the bytes of both files, by its text and status; four statuses never
 -- come

@@ -8,7 +8,7 @@ use Rattle.ats_trace.specs.Run.{IsLegal}
 use Rattle.ats_trace.specs.declared.journey.Release.{Release}
 use Rattle.ats_buffer.specs.Buffer.{buffer_at, buffers_of}
 use Rattle.ats_buffer.specs.Occupancy.{occupancy, row_at}
-use Rattle.ats_buffer_law.specs.Laws.{TalkersKeepBuckets}
+use Rattle.ats_buffer_law.specs.Laws.{NodesKeepBuckets}
 use Rattle.ats_buffer_text.specs.Text.{buffers_text}
 use Rattle.ats_command_input.specs.Answer.{Answer}
 use Rattle.ats_command_input.specs.Input.{network_in, releases_in, rows_in}
@@ -20,10 +20,10 @@ use Rattle.ats_command_due.specs.Held.{IsHeldRun, IsHeldText, held, held_in}
 use Rattle.ats_command_due.specs.Replayed.{IsOneOf}
 use Rattle.ats_command_law.specs.Meaning.{CheckSays, HasNoRows, IsRefused}
 
--- in each legal run of the network, at every time, a port holds of a class at most so many bits, where each station
--- keeps its buckets at which a stream begins that has the class there
+-- in each legal run of the network, at every time, a port holds of a class at most so many bits, where each node keeps
+-- its buckets at which a stream begins that has the class there, and each bridge from which it goes on towards the port
 abbrev pub IsRoomAt : DeclaredNetwork → ℕ → ℕ → ℕ → Type 0
-IsRoomAt network port class bits = (run : List Travel) → IsLegal network run → TalkersKeepBuckets network run port class
+IsRoomAt network port class bits = (run : List Travel) → IsLegal network run → NodesKeepBuckets network run port class
     → (time : ℕ) → occupancy network run port class time ≤ bits
 
 -- these rows hold for the network, and these numbers are their buffers, one for each row: that of its port and class,
@@ -65,7 +65,8 @@ BuffersMean = (net certificate net_bytes certificate_bytes : List ℕ)
 
 -- three files of these bytes declare this network, these rows, which hold for it, and these releases. The text gives
 -- the buffers of the rows, and beside them their peaks in this run, in this order and with exactly these releases; a
--- peak is within its buffer, where each station keeps its buckets at which a stream with that class there begins
+-- peak is within its buffer, where those nodes keep their buckets at which a stream with that class there begins, or
+-- from which it goes on towards the port
 pub record ArePeaksOf (net certificate schedule net_bytes certificate_bytes schedule_bytes : List ℕ) (order : Order)
     (text : List ℕ) (network : DeclaredNetwork) (rows : List Row) (releases : List Release) (run : List Travel)
     (peaks : List ℕ) : Type 0 where
@@ -75,7 +76,7 @@ pub record ArePeaksOf (net certificate schedule net_bytes certificate_bytes sche
   pub rules : IsNetwork network
   pub buffers : AreBuffers network rows (buffers_of network rows)
   pub held_run : IsHeldRun order (held network rows releases) text run peaks
-  pub fit : (n : ℕ) → n < length rows → TalkersKeepBuckets network run (row_at rows n).port (row_at rows n).class
+  pub fit : (n : ℕ) → n < length rows → NodesKeepBuckets network run (row_at rows n).port (row_at rows n).class
       → slice_index peaks n ≤ slice_index (buffers_of network rows) n
 
 -- the first two declare this network and these rows, and the third no releases for the network's senders

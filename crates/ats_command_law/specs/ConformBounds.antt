@@ -16,7 +16,7 @@ abbrev pub AllDelaysAreWithin : DeclaredNetwork → List Row → List Travel →
 AllDelaysAreWithin network rows run = (journey : Travel) → Contains run journey → (stream : DeclaredStream)
     → slice_get network.streams journey.release.sender ≡ Some stream → IsWithinBounds network rows stream journey
 
--- a network, a certificate and a schedule are told, by whose releases every station keeps its buckets: the first text
+-- a network, a certificate and a schedule are told, by whose releases every node keeps its buckets: the first text
 -- gives the bounds and sums of these rows, the second the journeys of this run, and all its delays are within them
 pub record AreTextsWithin (told : List ℕ → Option (List ℕ)) (net certificate schedule : List ℕ) (order : Order)
     (checked replayed : List ℕ) (network : DeclaredNetwork) (rows : List Row) (releases : List Release)

@@ -13,7 +13,7 @@ use Rattle.ats_command_law.specs.ReplayMeaning.{HasNoReleases}
 use Rattle.ats_command_input.specs.declared.status.Status.{Status}
 use Rattle.ats_command_input.specs.declared.status.Status.TheVariants.{Done, Input, Refused}
 
--- two files of these bytes declare this network and these releases, by which every station keeps its buckets, and the
+-- two files of these bytes declare this network and these releases, by which every node keeps its buckets, and the
 -- text gives their number
 pub record AreKept (net schedule net_bytes schedule_bytes text : List ℕ) (network : DeclaredNetwork)
     (releases : List Release) : Type 0 where
@@ -23,7 +23,7 @@ pub record AreKept (net schedule net_bytes schedule_bytes text : List ℕ) (netw
   pub keeps : AllKeepBuckets network releases
   pub written : text ≡ conforms_text (length releases)
 
--- they declare this network and these releases, by which some station does not keep its buckets, and the text says how
+-- they declare this network and these releases, by which some node does not keep its buckets, and the text says how
 -- the first frame breaks what its sender declares
 pub record AreBroken (net schedule net_bytes schedule_bytes text : List ℕ) (network : DeclaredNetwork)
     (releases : List Release) (broken : Broken) : Type 0 where

@@ -29,7 +29,7 @@ StreamsHaveBursts network releases measured = (i : ℕ) (d : Measured) → i < l
     → (burst : ℕ) × ((slice_index_or measured i d).burst_bits ≡ Some burst) × IsJustEnough network releases i burst
 
 -- two files of these bytes declare this network and these releases. The text gives what is measured of the releases of
--- each sender, in order, and how many senders are over what they declare: none exactly where every station keeps its
+-- each sender, in order, and how many senders are over what they declare: none exactly where every node keeps its
 -- buckets
 pub record IsFitOf (net schedule net_bytes schedule_bytes text : List ℕ) (network : DeclaredNetwork)
     (releases : List Release) (measured : List Measured) : Type 0 where

@@ -35,13 +35,13 @@ EachWorstIsWithin network run = (sender listener bound : ℕ)
     → bound_of network (least_sums network) sender listener ≡ Some bound
     → (summary_for network run sender listener).worst.0 ≤ bound
 
--- so it is of each legal run with releases by which every station keeps its buckets
+-- so it is of each legal run with releases by which every node keeps its buckets
 abbrev pub PrintedWorstIsWithin : Type 0
 PrintedWorstIsWithin = (network : DeclaredNetwork) (run : List Travel) → IsNetwork network → IsLegal network run
     → AllKeepBuckets network (releases_of run) → EachWorstIsWithin network run
 
 -- a file of these bytes declares this network; these are the releases of so many frames that are made for it from the
--- seed, by which every station keeps its buckets; and the text sums up this run of them, in which the printed
+-- seed, by which every node keeps its buckets; and the text sums up this run of them, in which the printed
 -- worst delay for each listener is within the bound beside it
 pub record IsMadeRun (net bytes : List ℕ) (seed count : ℕ) (text : List ℕ) (network : DeclaredNetwork)
     (releases : List Release) (run : List Travel) : Type 0 where

@@ -32,7 +32,7 @@ ReleasedIsScheduled = (told : List ℕ → Option (List ℕ)) (net station file 
     × (scheduled_in net schedule (told_bytes told net) (told_bytes told schedule)
     ≡ Ok (record { network = network; releases = traffic.releases }))
 
--- a network, a certificate and a capture are told, by whose releases every station keeps its buckets: the first text
+-- a network, a certificate and a capture are told, by whose releases every node keeps its buckets: the first text
 -- gives the bounds and sums of these rows, the second the journeys of this run of the capture, and all its delays are
 -- within them
 pub record IsCaptureWithin (told : List ℕ → Option (List ℕ)) (net certificate station file : List ℕ) (order : Order)

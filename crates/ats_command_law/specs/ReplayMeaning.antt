@@ -1,12 +1,15 @@
-use Rattle.std.specs.Prelude.{◌≡◌, ℕ, ◌⊎◌, List, Option, Some, Ok, IsErr, Contains, slice_get}
+use Rattle.std.specs.Prelude.{◌≡◌, ℕ, ◌<◌, ◌⊎◌, List, Option, Some, Ok, IsErr, Contains, slice_get}
 use Rattle.ats_network.specs.Network.{DeclaredNetwork, IsNetwork}
 use Rattle.ats_network.specs.Senders.{sender_at}
 use Rattle.ats_verdict_text.specs.Stream.{DeclaredStream}
 use Rattle.ats_certificate.specs.declared.row.Row.{Row}
-use Rattle.ats_soundness_law.specs.Sound.{IsServed}
-use Rattle.ats_checker.specs.InTime.{ArrivesInTime}
+use Rattle.ats_group.specs.Judge.{bucket_rule}
+use Rattle.ats_network.specs.Sender.{stream_sender}
+use Rattle.ats_soundness_law.specs.Sound.{BridgesKeep, IsServed, IsServedOn}
+use Rattle.ats_checker.specs.InTime.{ArrivesInTime, ArrivesInTimeOn}
 use Rattle.ats_trace.specs.Journey.{Travel}
 use Rattle.ats_trace.specs.Talker.{talker_of, KeepsBuckets}
+use Rattle.ats_trace.specs.Ways.{listener_count, route_to, way_to}
 use Rattle.ats_trace.specs.declared.journey.Release.{Release}
 use Rattle.ats_command_input.specs.Answer.{Answer}
 use Rattle.ats_command_input.specs.Command.{Check, Replay}
@@ -55,13 +58,24 @@ pub record IsWithinBounds (network : DeclaredNetwork) (rows : List Row) (stream 
   pub served : IsServed rows (sender_at network journey.release.sender) journey
   pub in_time : ArrivesInTime rows stream journey
 
--- each frame of a stream whose talker keeps its buckets in these releases is, at each listener, within the bounds of
--- these rows
+-- so it is on its way to one of the listeners
+pub record IsWithinBoundsTo (network : DeclaredNetwork) (rows : List Row) (stream : DeclaredStream) (journey : Travel)
+    (listener : ℕ) : Type 0 where
+  pub served : IsServedOn rows (sender_at network journey.release.sender) journey.release
+      (route_to (sender_at network journey.release.sender) listener)
+      (way_to (sender_at network journey.release.sender) journey listener)
+  pub in_time : ArrivesInTimeOn rows stream journey.release (route_to (stream_sender stream) listener)
+      (way_to (stream_sender stream) journey listener).ending
+
+-- each frame of a stream whose talker keeps its buckets in these releases is within the bounds of these rows at each
+-- listener such that the bridges on the way there keep theirs too
 abbrev pub DelaysAreWithin : DeclaredNetwork → List Row → List Release → List Travel → Type 0
 DelaysAreWithin network rows releases run = (journey : Travel) → Contains run journey → (stream : DeclaredStream)
     → slice_get network.streams journey.release.sender ≡ Some stream
     → KeepsBuckets network releases (talker_of network journey.release.sender)
-    → IsWithinBounds network rows stream journey
+    → (listener : ℕ) → listener < listener_count (sender_at network journey.release.sender)
+    → BridgesKeep bucket_rule network releases (route_to (sender_at network journey.release.sender) listener)
+    → IsWithinBoundsTo network rows stream journey listener
 
 -- a network, a certificate and a schedule are told: the first text gives the bounds and sums of these rows, the second
 -- the journeys of this run, whose delays are within them
@@ -75,7 +89,7 @@ pub record AreTextsOf (told : List ℕ → Option (List ℕ)) (net certificate s
   pub within : DelaysAreWithin network rows releases run
 
 -- where Done is due to `check NET CERT` and to `replay NET SCHEDULE ORDER`, what the second prints of each frame of a
--- stream whose talker keeps its buckets in the schedule is within what the first prints
+-- stream whose talker keeps its buckets in the schedule, as the bridges on its way do, is within what the first prints
 abbrev pub ReplayKeepsBounds : Type 0
 ReplayKeepsBounds = (told : List ℕ → Option (List ℕ)) (net certificate schedule : List ℕ) (order : Order)
     (checked replayed : List ℕ)

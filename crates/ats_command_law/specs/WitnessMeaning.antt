@@ -19,7 +19,7 @@ use Rattle.ats_command_input.specs.declared.status.Status.{Status}
 use Rattle.ats_command_input.specs.declared.status.Status.TheVariants.{Done, Input, Refused}
 
 -- what is found of a stream for a listener can happen: each delay can, and none is above the sum of the least bounds
--- along the route there; and by the releases every station keeps its buckets
+-- along the route there; and by the releases every node keeps its buckets
 pub record IsShownFor (network : DeclaredNetwork) (stream listener : ℕ) (found : FoundDelays) : Type 0 where
   pub happen : All (CanHappen network stream listener) found.delays
   pub within : All (IsWithinBound network stream listener) found.delays

@@ -82,8 +82,8 @@ pub fn what_settings_answers()
 /// What each answer to `buffers NET CERT` means, by its status. `Done`: the files declare a network and rows that hold
 /// for it, and the text gives the buffer of each row. In each legal run, at every time, the occupancy of each port and
 /// class of streams is at most its buffer, and so that of a row's port and class at most the number that is printed,
-/// where each station keeps its buckets at which a stream with that class there begins. Any other status and its text
-/// say what they say where `check` answers so.
+/// where each node keeps its buckets at which a stream with that class there begins, and each bridge from which that
+/// stream goes on towards the port. Any other status and its text say what they say where `check` answers so.
 pub fn what_buffers_answers()
     ensures { BuffersMean }
 {}
@@ -91,8 +91,8 @@ pub fn what_buffers_answers()
 /// What each answer to `buffers NET CERT SCHEDULE ORDER` means, by its status. `Done`: the files declare a network,
 /// rows that hold for it, of whose buffers the same is true, and releases; and the text gives the buffer of each row
 /// and beside it the peak of its port and class, over all times, in a legal run of this network, by the tie and the
-/// pace of the order, with exactly these releases. A peak is at most its buffer, where each station keeps its buckets
-/// at which a stream with that class there begins. `Refused`: they declare a network, rows that do not hold for it, and
+/// pace of the order, with exactly these releases. A peak is at most its buffer, where those
+/// nodes keep their buckets. `Refused`: they declare a network, rows that do not hold for it, and
 /// releases, and the text gives the first refusal of these rows. `Input`: one of them does not declare what it should.
 /// No other status comes.
 pub fn what_peaks_answer()
@@ -100,8 +100,8 @@ pub fn what_peaks_answer()
 {}
 
 /// What each answer to `conform` means, by its status. `Done`: the files declare a network and releases, by which every
-/// station keeps its buckets, and the text gives their number. `Refused`: they declare a network and releases, by which
-/// some station does not keep its buckets, and the text names the first frame that breaks what its sender declares, and
+/// node keeps its buckets, and the text gives their number. `Refused`: they declare a network and releases, by which
+/// some node does not keep its buckets, and the text names the first frame that breaks what its sender declares, and
 /// how. `Input`: one of them does not declare what it should. No other status comes.
 pub fn what_conform_answers()
     ensures { ConformMeans }
@@ -153,7 +153,7 @@ pub fn released_is_scheduled()
 {}
 
 /// Where `Done` is due to `releases`, to `conform` of its text, to `check` of a certificate, and to `capture` of the
-/// same capture or to `replay` of that text, for one network: by the releases every station keeps its buckets, and each
+/// same capture or to `replay` of that text, for one network: by the releases every node keeps its buckets, and each
 /// frame of each stream is, in the run that the last prints and on its way to each listener, never discarded, eligible
 /// at each next hop within the bound that `check` prints for the hop before, and arrives there within the sum that is
 /// printed for the listener and within the stream's deadline.
@@ -164,7 +164,7 @@ pub fn releases_keep_bounds()
 /// What each answer to `fit` means, by its status. `Done`: the files declare a network and releases, and the text gives
 /// for each stream and then each flow, in order, how many releases it has, the least and the greatest of their octets,
 /// and for a stream the least burst: with it the stream's releases conform to its declared rate, and with no bit less
-/// do they. The number of senders that are over what they declare is 0 exactly where every station keeps its buckets.
+/// do they. The number of senders that are over what they declare is 0 exactly where every node keeps its buckets.
 /// `Input`: one of the files does not declare what it should. No other status comes.
 pub fn what_fit_answers()
     ensures { FitMeans }
@@ -193,7 +193,7 @@ pub fn what_record_answers()
 /// What each answer to `witness` means, by its status. `Done`: the file declares a network, in which a stream has this
 /// name, and for which the least certificate holds. The text gives for each listener of the stream a delay for each
 /// port of the route there, the greatest for this listener in a run of the burst at the port, and the burst of the
-/// first port with a greatest one. Each of the delays can happen: in a legal run in which every station keeps its
+/// first port with a greatest one. Each of the delays can happen: in a legal run in which every node keeps its
 /// buckets a frame of the stream takes just so long to this listener. None is above the sum of the stream's least
 /// bounds along the route, which the text gives too. `Refused`: it declares a network, in which no stream has this
 /// name, or for which no certificate holds, and the text says which, with the first reason. `Input`: it declares none.
@@ -203,7 +203,7 @@ pub fn what_witness_answers()
 {}
 
 /// What each answer to `generate` means, by its status. `Done`: the file declares a network, and the text sums up a
-/// legal run, in the order `early`, with exactly the releases that are made from the seed, by which every station keeps
+/// legal run, in the order `early`, with exactly the releases that are made from the seed, by which every node keeps
 /// its buckets; where some certificate of the network holds, each delay of a stream to each of its listeners in this
 /// run is within the least bounds, whose sums the text gives, and so is each printed worst delay within the bound
 /// beside it. `Refused`: it declares a network for which no releases are made, and the text says why. `Input`: it
@@ -213,15 +213,16 @@ pub fn what_generate_answers()
 {}
 
 /// Where `Done` is due to `check` of a certificate and to `replay` of a schedule for one network: each frame of a
-/// stream whose talker keeps its buckets in this schedule is, in the run that `replay` prints and on its way to each
-/// listener, never discarded, eligible at each next hop within the bound that `check` prints for the hop before, and
-/// arrives there within the sum that is printed for the listener and within the stream's deadline.
+/// stream whose talker keeps its buckets in this schedule, as the bridges on the way do, is, in the run that `replay`
+/// prints and on its way to each listener, never discarded, eligible at each next hop within the bound that `check`
+/// prints for the hop before, and arrives there within the sum that is printed for the listener and within the stream's
+/// deadline.
 pub fn replay_keeps_bounds()
     ensures { ReplayKeepsBounds }
 {}
 
 /// Where `Done` is due to `conform` of a schedule, to `check` of a certificate and to `replay` of the schedule for one
-/// network: by the schedule every station keeps its buckets, and each frame of each stream is, in the run that `replay`
+/// network: by the schedule every node keeps its buckets, and each frame of each stream is, in the run that `replay`
 /// prints and on its way to each listener, never discarded, eligible at each next hop within the bound that `check`
 /// prints for the hop before, and arrives there within the sum that is printed for the listener and within the stream's
 /// deadline.
@@ -249,7 +250,7 @@ pub fn capture_keeps_bounds()
     ensures { CaptureKeepsBounds }
 {}
 
-/// In each legal run with releases by which every station keeps its buckets, what `generate` prints of a listener of a
+/// In each legal run with releases by which every node keeps its buckets, what `generate` prints of a listener of a
 /// sender as its worst delay is at most what it prints as its bound, where it prints one.
 pub fn printed_worst_is_within()
     ensures { PrintedWorstIsWithin }

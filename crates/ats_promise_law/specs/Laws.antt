@@ -2,6 +2,7 @@ use Rattle.std.specs.Prelude.{◌≡◌, ℕ, List, Option, Ok}
 use Rattle.ats_bucket.specs.Conforming.{Frame}
 use Rattle.ats_streams.specs.declared.traffic.Declared.{Declared}
 use Rattle.ats_network.specs.Network.{DeclaredNetwork}
+use Rattle.ats_network_file.specs.Reading.{IsBeforeFormat3}
 use Rattle.ats_certificate.specs.declared.row.Row.{Row}
 use Rattle.ats_group.specs.Judge.{Judge, ats_judge, bucket_rule}
 use Rattle.ats_soundness_law.specs.Sound.{IsSoundBy}
@@ -12,9 +13,11 @@ use Rattle.ats_command_input.specs.Command.{Check, LrqCheck}
 use Rattle.ats_command_input.specs.Input.{network_in, rows_in}
 use Rattle.ats_command_due.specs.Due.{IsTold, told_bytes}
 use Rattle.ats_command_due.specs.Soundness.{Promises}
+use Rattle.ats_promise_law.specs.Stations.{TalkersAreEnough}
 
 -- both files declare this network and these rows; the rows are sound where groups judge so and talkers keep this rule,
--- frames are in time by them, and the text gives their bounds and sums
+-- frames are in time by them, and the text gives their bounds and sums. Of a network file of format 1 or 2 nothing is
+-- asked of bridges
 pub record AreDeclared (judge : Judge) (rule : Declared → List Frame → Type 0)
     (net certificate net_bytes certificate_bytes text : List ℕ) (network : DeclaredNetwork) (rows : List Row) : Type 0
   where
@@ -22,6 +25,7 @@ pub record AreDeclared (judge : Judge) (rule : Declared → List Frame → Type 
     pub rows_declared : rows_in network.topology certificate certificate_bytes ≡ Ok rows
     pub sound : IsSoundBy judge rule network rows
     pub in_time : FramesAreInTimeBy judge rule network rows
+    pub before : IsBeforeFormat3 net_bytes → TalkersAreEnough judge rule network rows
     pub written : text ≡ accepted_text network rows
 
 -- there are such a network and rows of the files of these words

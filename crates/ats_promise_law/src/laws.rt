@@ -2,12 +2,20 @@
 
 ghost use Rattle.ats_promise_law.specs.Laws.{PromisesAreKept};
 ghost use Rattle.ats_promise_law.specs.Printed.{PrintedTextsAreDue};
+ghost use Rattle.ats_promise_law.specs.Stations.{JoinedBeginAtStations};
 
 /// A law: where the files are told, what `check` promises of its text is that they declare a network and rows of which
 /// it is a sound text, by the groups of Asynchronous Traffic Shaping and for talkers that keep their buckets; and
-/// `lrq check` the same by length-rate-quotient regulators and for talkers that keep their spacing.
+/// `lrq check` the same by length-rate-quotient regulators and for talkers that keep their spacing. Where the network's
+/// file is of format 1 or 2, nothing is asked of bridges.
 pub fn promises_are_kept()
     ensures { PromisesAreKept }
+{}
+
+/// A law: where each route of a network leads from a station to a station, as in each file of format 1 or 2, no bridge
+/// has frames of its own.
+pub fn joined_begin_at_stations()
+    ensures { JoinedBeginAtStations }
 {}
 
 /// A law: what was printed whole is the text that is due with its status, where the files are told, and what was cut

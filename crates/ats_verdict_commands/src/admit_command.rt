@@ -56,7 +56,7 @@ fn admission_of<F: Files>(
 
 // What is printed of the answers to requests, or why no certificate of the network holds.
 fn answers_of(alloc: Global, network: Network, asked: Vec<Request>) -> Result<Vec<u8>, Stop>
-    requires asked { All (MayAsk network.topology) asked.items }
+    requires asked { All (MayAsk network) asked.items }
     ensures due { Gives (λ text. text.items) result (admission_judged network asked.items) }
     ensures was_read { ¬ IsErrOf result Stop.ReadFailed }
 {
@@ -68,7 +68,7 @@ fn answers_of(alloc: Global, network: Network, asked: Vec<Request>) -> Result<Ve
 
 // What is printed of the answers of a session.
 fn text_of(alloc: Global, mut session: Session, asked: Vec<Request>) -> Result<Vec<u8>, AllocError>
-    requires { All (MayAsk session.topology) asked.items }
+    requires { All (MayAsk session) asked.items }
     ensures { IfOk result (λ text. text.items ≡ admission_text session asked.items) }
 {
     answered(alloc, &mut session, asked)

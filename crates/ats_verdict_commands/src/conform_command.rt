@@ -18,8 +18,8 @@ use ats_num::Failure;
 use ats_trace::Release;
 use std::alloc::{AllocError, Global};
 
-/// The text of `conform NET SCHEDULE`: the number of releases, by which every station keeps its buckets. It stops where
-/// the network's file and then where the schedule's has a fault or can't be read, and where some station does not keep
+/// The text of `conform NET SCHEDULE`: the number of releases, by which every node keeps its buckets. It stops where
+/// the network's file and then where the schedule's has a fault or can't be read, and where some node does not keep
 /// its buckets.
 pub fn conform<F: Files>(
     alloc: Global,
@@ -49,7 +49,7 @@ fn conformance_of<F: Files>(
     judgement_of(alloc, network, &releases)
 }
 
-// What is printed of releases by which every station keeps its buckets, or of the first frame that breaks one.
+// What is printed of releases by which every node keeps its buckets, or of the first frame that breaks one.
 fn judgement_of(alloc: Global, network: &Network, releases: &[Release]) -> Result<Vec<u8>, Stop>
     requires { AreReleases network.now releases.now }
     ensures due { IfSome (answer_of result) (JudgesReleases network.now releases.now) }
@@ -62,7 +62,7 @@ fn judgement_of(alloc: Global, network: &Network, releases: &[Release]) -> Resul
     }
 }
 
-// The line of so many releases by which every station keeps its buckets.
+// The line of so many releases by which every node keeps its buckets.
 fn conforms(alloc: Global, releases: usize) -> Result<Vec<u8>, AllocError>
     ensures { IfOk result (λ text. text.items ≡ conforms_text releases) }
 {

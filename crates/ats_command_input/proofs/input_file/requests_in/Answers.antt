@@ -16,25 +16,25 @@ unfolding requests_in
 returns-in_err-bytes-clause-due g c = λ bytes told.
     subst (λ (r : Result (Vec Request) Stop).
     Gives (λ (requests : Vec Request). requests.items) r
-    (requests_in c.args.network.now.topology c.args.file.now bytes))
+    (requests_in c.args.network.now c.args.file.now bytes))
     (sym (err_is c.from_residual.result c.in_err-bytes.field-0.0 c.from_residual.ensures.1))
     (stops_all c.in_err-bytes.field-0.0 (bytes_in 16777216 c.args.file.now bytes)
-    (λ text. declared_in c.args.file.now fault_text (requests_of c.args.network.now.topology text))
+    (λ text. declared_in c.args.file.now fault_text (requests_of c.args.network.now text))
     (c.in_err-bytes.ensures.due bytes told))
 
 pub returns-clause-due : goal.returns-clause-due
 unfolding requests_in
 returns-clause-due g c = λ bytes told.
     declares (λ (requests : Vec Request). requests.items) c.declared.result 16777216 c.args.file.now bytes
-    c.in_ok-bytes.bytes.items c.deref.result.now fault_text (requests_of c.args.network.now.topology)
+    c.in_ok-bytes.bytes.items c.deref.result.now fault_text (requests_of c.args.network.now)
     (c.in_ok-bytes.ensures.due bytes told) c.deref.ensures.value
     (passes_seen (λ (requests : Vec Request). requests.items) _ c.args.file.now c.read_requests.result
-    c.declared.result fault_text (requests_of c.args.network.now.topology c.deref.result.now) c.declared.ensures.due
+    c.declared.result fault_text (requests_of c.args.network.now c.deref.result.now) c.declared.ensures.due
     c.declared.ensures.spent (λ fault. refl) c.read_requests.ensures.value)
 
 pub returns-clause-allowed : goal.returns-clause-allowed
 returns-clause-allowed g c =
-    read_keeps (λ (requests : Vec Request). All (MayAsk c.args.network.now.topology) requests.items)
+    read_keeps (λ (requests : Vec Request). All (MayAsk c.args.network.now) requests.items)
     c.read_requests.result c.declared.result c.declared.ensures.same c.read_requests.ensures.allowed
 
 pub returns-in_err-bytes-clause-reads : goal.returns-in_err-bytes-clause-reads

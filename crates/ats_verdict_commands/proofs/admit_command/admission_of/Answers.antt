@@ -15,14 +15,14 @@ returns-in_err-asked-clause-due g c = λ bytes told.
     subst (λ (r : Result (Vec ℕ) Stop). Gives (λ (text : Vec ℕ). text.items) r
     (requests_judged network requests bytes))
     (sym (err_is c.from_residual.result c.in_err-asked.field-0.0 c.from_residual.ensures.1))
-    (stops_all c.in_err-asked.field-0.0 (requests_in network.topology requests bytes)
+    (stops_all c.in_err-asked.field-0.0 (requests_in network requests bytes)
     (λ asked. admission_judged network asked) (c.in_err-asked.ensures.due bytes told))
 
 pub returns-clause-due : goal.returns-clause-due
 returns-clause-due g c = λ bytes told.
     let network : DeclaredNetwork = c.args.network in
     let requests : List ℕ = c.args.requests.now in
-    goes_on (λ (text : Vec ℕ). text.items) c.answers_of.result (requests_in network.topology requests bytes)
+    goes_on (λ (text : Vec ℕ). text.items) c.answers_of.result (requests_in network requests bytes)
     c.in_ok-asked.asked.items (λ asked. admission_judged network asked)
     (c.in_ok-asked.ensures.due bytes told) c.answers_of.ensures.due
 
