@@ -10,6 +10,7 @@ use Rattle.ats_network_file.specs.Reading.{network_of}
 use Rattle.ats_network_file.specs.Senders.{all_added, flow_added, refusal_of, stream_added, stream_made, stream_over}
 use Rattle.ats_network_file.specs.declared.fault.NetFault.{NetFault}
 use Rattle.ats_network_file.specs.declared.senders.SenderTable.TheVariants.{Stream}
+use Rattle.ats_network_table.specs.declared.format.Format.TheVariants.{One}
 use Rattle.ats_network_toml.specs.Document as file
 use Rattle.ats_network_toml.specs.Document.{ends}
 use Rattle.ats_network_toml.specs.Reading.{document_of}
@@ -18,7 +19,7 @@ use Rattle.ats_command_input.specs.Input.{declared_in, network_in}
 use Rattle.ats_examples.proofs.NetworkTest.{valid_from_by}
 use Rattle.ats_examples.specs.Networks.{line_links, line_nodes}
 use Rattle.ats_file_examples.proofs.Parsing.{parsed}
-use Rattle.ats_file_examples.proofs.Steps.{document_is, legs_is, network_is, one_leg, one_more, stream_is}
+use Rattle.ats_file_examples.proofs.Steps.{at_stream, document_is, legs_is, network_is, one_leg, one_more, stream_is}
 use Rattle.ats_answer_examples.specs.Regulated.{bursts, late_bursts}
 
 -- What the network files of the calls declare: their tables by computation, and then their stream.
@@ -44,6 +45,7 @@ entry_until deadline = record {
 
 abbrev document_until : ℕ → file.DeclaredDocument
 document_until deadline = record {
+  format = One;
   stations = record { name = codes "s1" } ∷ record { name = codes "s2" } ∷ [];
   bridges =
       record { name = codes "b1"; processing_min_ns = 1000; processing_max_ns = 1000; residence_ns = 1000000 } ∷ [];
@@ -51,7 +53,9 @@ document_until deadline = record {
       record { a = codes "s1"; b = codes "b1"; mbps = 1000; propagation_ns = 500 }
       ∷ record { a = codes "b1"; b = codes "s2"; mbps = 1000; propagation_ns = 500 } ∷ [];
   streams = entry_until deadline ∷ [];
+  link_locals = [];
   flows = [];
+  link_local_flows = [];
 }
 
 abbrev empty : DeclaredNetwork
@@ -60,17 +64,17 @@ empty = declared_network (topology_of line_nodes line_links) [] []
 -- the network with the stream of such an entry, where it is added
 abbrev with_entry : ℕ → Result DeclaredNetwork NetFault
 with_entry deadline =
-    stream_made 1 (entry_until deadline) (stream_over (one_leg (0 ∷ 2 ∷ [])) (entry_until deadline))
-    >>= λ stream. unless (refusal_of Stream 1) (stream_push_fault empty stream) (with_stream empty stream)
+    stream_made 16 (at_stream 1) (entry_until deadline) (stream_over (one_leg (0 ∷ 2 ∷ [])) (entry_until deadline))
+    >>= λ stream. unless (refusal_of (at_stream 1)) (stream_push_fault empty stream) (with_stream empty stream)
 
 text_is : (text : List ℕ) (deadline : ℕ) → document_of text ≡ Ok (document_until deadline)
     → with_entry deadline ≡ Ok (line_until deadline) → network_of text ≡ Ok (line_until deadline)
 text_is text deadline tables made =
     network_is text (document_until deadline) (Ok (line_until deadline)) tables
-    (ap (λ (s : Result DeclaredNetwork NetFault). s >>= λ streamed. all_added flow_added streamed 1 [])
-    (one_more stream_added empty (line_until deadline) 1 (entry_until deadline) []
-    (stream_is empty 1 (entry_until deadline) (one_leg (0 ∷ 2 ∷ [])) (Ok (line_until deadline))
-    (legs_is empty.topology 1 (ends (codes "s1") (codes "s2") ∷ []) (0 ∷ 2 ∷ []) refl
+    (ap (λ (s : Result DeclaredNetwork NetFault). s >>= λ streamed. all_added (flow_added One) streamed [])
+    (one_more (stream_added One) empty (line_until deadline) (at_stream 1) (entry_until deadline) []
+    (stream_is One empty (at_stream 1) (entry_until deadline) (one_leg (0 ∷ 2 ∷ [])) (Ok (line_until deadline))
+    (legs_is One empty.topology (at_stream 1) (ends (codes "s1") (codes "s2") ∷ []) (0 ∷ 2 ∷ []) refl refl
     (valid_from_by empty.topology 0 (0 ∷ 2 ∷ []) refl)) made)))
 
 -- the files of both networks

@@ -1,6 +1,9 @@
 //! Worked calls: the bytes of their files, and the answers that are due.
 
+ghost use Rattle.ats_answer_examples.specs.Concluded.{ConclusionsAreShown};
+ghost use Rattle.ats_answer_examples.specs.Printed.{TextsAreShown};
 ghost use Rattle.ats_answer_examples.specs.Regulated.{LrqBoundIsAnswered, LrqCheckIsAnswered, LrqShapeIsAnswered};
+ghost use Rattle.ats_answer_examples.specs.Replied.{RepliesAreShown};
 ghost use Rattle.ats_answer_examples.specs.Told.{BuffersIsAnswered, PeaksIsAnswered, SettingsIsAnswered};
 ghost use Rattle.ats_answer_examples.specs.Words.{WordsAreNone};
 
@@ -42,4 +45,21 @@ pub fn lrq_check_is_answered()
 /// Words that are no command: too few and too many for each, others in their place, and the numbers of mixed orders.
 pub fn words_are_none()
     ensures { WordsAreNone }
+{}
+
+/// What words say that laws conclude of bursts, releases, buffers and bounds: each of something of which it is so, and
+/// beside it of others, with one thing changed, of which it is not.
+pub fn conclusions_are_shown()
+    ensures { ConclusionsAreShown }
+{}
+
+/// The same of the texts of `check`, `replay` and `generate` and of the answers to `bound`, on the files of the worked
+/// calls.
+pub fn texts_are_shown()
+    ensures { TextsAreShown }
+{}
+
+/// The same of the answers to requests, by the network before each and the one after it.
+pub fn replies_are_shown()
+    ensures { RepliesAreShown }
 {}

@@ -68,10 +68,10 @@ pub releases_fail : (over : DeclaredNetwork) (file bytes : List ℕ)
 unfolding releases_in
 releases_fail over file bytes = file_fails 33554432 file bytes schedule.fault_text (releases_of over)
 
-pub requests_fail : (topology : DeclaredTopology) (file bytes : List ℕ)
-    → IfErr (requests_in topology file bytes) (Tells (λ text. RequestsFail file bytes text topology))
+pub requests_fail : (network : DeclaredNetwork) (file bytes : List ℕ)
+    → IfErr (requests_in network file bytes) (Tells (λ text. RequestsFail file bytes text network))
 unfolding requests_in
-requests_fail topology file bytes = file_fails 16777216 file bytes requests.fault_text (requests_of topology)
+requests_fail network file bytes = file_fails 16777216 file bytes requests.fault_text (requests_of network)
 
 -- a word that names no station is refused
 pub station_refuses : (Fails : List ℕ → Type 0) (topology : DeclaredTopology) (word : List ℕ)

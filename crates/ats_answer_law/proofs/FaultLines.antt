@@ -114,16 +114,16 @@ check_tells net certificate net_bytes bytes =
     judge over = certificate_judged over certificate bytes
 
 admit_tells : (net requests net_bytes bytes : List ℕ)
-    → Tells (λ text. OneFails net net_bytes text (λ declared. RequestsFail requests bytes text declared.topology))
+    → Tells (λ text. OneFails net net_bytes text (λ declared. RequestsFail requests bytes text declared))
     (admit_answer net requests net_bytes bytes)
 unfolding admit_answer
 admit_tells net requests net_bytes bytes =
-    settled_fails (λ text. OneFails net net_bytes text (λ declared. RequestsFail requests bytes text declared.topology))
+    settled_fails (λ text. OneFails net net_bytes text (λ declared. RequestsFail requests bytes text declared))
     (network_in net net_bytes >>= judge)
-    (either_fails net net_bytes (λ text declared. RequestsFail requests bytes text declared.topology) judge (λ over.
-    steps_fail (λ text. RequestsFail requests bytes text over.topology) (requests_in over.topology requests bytes)
-    (admission_judged over) (requests_fail over.topology requests bytes)
-    (λ asked is. admit_refuses (λ text. RequestsFail requests bytes text over.topology) over asked)))
+    (either_fails net net_bytes (λ text declared. RequestsFail requests bytes text declared) judge (λ over.
+    steps_fail (λ text. RequestsFail requests bytes text over) (requests_in over requests bytes)
+    (admission_judged over) (requests_fail over requests bytes)
+    (λ asked is. admit_refuses (λ text. RequestsFail requests bytes text over) over asked)))
   where
     judge : DeclaredNetwork → Result (List ℕ) Answer
     judge over = requests_judged over requests bytes
@@ -327,9 +327,9 @@ faults_are_told told (Admit net name) answer due input =
     let net_bytes : List ℕ = told_bytes told net in
     let bytes : List ℕ = told_bytes told name in
     of_both told net name
-    (λ net_bytes bytes. OneFails net net_bytes answer.text (λ over. RequestsFail name bytes answer.text over.topology))
+    (λ net_bytes bytes. OneFails net net_bytes answer.text (λ over. RequestsFail name bytes answer.text over))
     due.is_told
-    (subst (Tells (λ text. OneFails net net_bytes text (λ over. RequestsFail name bytes text over.topology)))
+    (subst (Tells (λ text. OneFails net net_bytes text (λ over. RequestsFail name bytes text over)))
     (sym due.answers) (admit_tells net name net_bytes bytes) input)
 faults_are_told told (Replay net name order) answer due input =
     let net_bytes : List ℕ = told_bytes told net in

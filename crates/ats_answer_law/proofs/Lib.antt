@@ -9,3 +9,5 @@ pub mod Waiting
 pub mod Refused
 pub mod Meant
 pub mod JustOne
+pub mod Concluded
+pub mod Replied

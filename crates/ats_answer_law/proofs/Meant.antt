@@ -62,7 +62,9 @@ reached told Unknown name is = absurd is
 pub nothing_less_is_meant : NothingLessIsMeant
 nothing_less_is_meant = record {
   delays = record {
-    of_talkers = λ network rows releases run within journey among stream is keeps.
+    of_talkers = λ network rows releases run within journey among stream is keeps listener below bridges.
+        let both = within journey among stream is keeps listener below bridges in (both.served, both.in_time);
+    of_captured = λ network rows releases run within journey among stream is keeps.
         let both = within journey among stream is keeps in (both.served, both.in_time);
     of_all = λ network rows run within journey among stream is.
         let both = within journey among stream is in (both.served, both.in_time);
@@ -71,7 +73,9 @@ nothing_less_is_meant = record {
     worst = λ network run within sender listener bound below is. within sender listener bound below is;
   };
   bridges = record {
-    room = λ network port class bits room run legal keep time. room run legal keep time;
+    room = λ network port class bits room run legal keep time. room run legal
+        (λ i below ranked.
+        (let kept = keep i below ranked in record { talker = kept.0; here = kept.1; before = kept.2 })) time;
     groups = λ one other settings alike port offers known. alike.groups port offers known;
     sizes = λ one other settings alike port offer named long long_there.
         alike.sizes port offer named long long_there;

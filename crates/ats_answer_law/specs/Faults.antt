@@ -66,8 +66,8 @@ RowsFail file bytes text topology = IsAtFault 16777216 (rows_of topology) certif
 abbrev pub ReleasesFail : List ℕ → List ℕ → List ℕ → DeclaredNetwork → Type 0
 ReleasesFail file bytes text over = IsAtFault 33554432 (releases_of over) schedule.fault_text file bytes text
 
-abbrev pub RequestsFail : List ℕ → List ℕ → List ℕ → DeclaredTopology → Type 0
-RequestsFail file bytes text topology = IsAtFault 16777216 (requests_of topology) requests.fault_text file bytes text
+abbrev pub RequestsFail : List ℕ → List ℕ → List ℕ → DeclaredNetwork → Type 0
+RequestsFail file bytes text network = IsAtFault 16777216 (requests_of network) requests.fault_text file bytes text
 
 -- the bytes of a capture's file have a fault, and the text gives it in its words
 pub record HasNoRecords (file bytes text : List ℕ) (fault : RecordsFault) : Type 0 where
@@ -119,7 +119,7 @@ FileFails told (Conform net schedule) text =
     OfBoth told net schedule (λ net_bytes bytes. OneFails net net_bytes text (ReleasesFail schedule bytes text))
 FileFails told (Admit net requests) text =
     OfBoth told net requests (λ net_bytes bytes.
-    OneFails net net_bytes text (λ declared. RequestsFail requests bytes text declared.topology))
+    OneFails net net_bytes text (λ declared. RequestsFail requests bytes text declared))
 FileFails told (Replay net schedule order) text =
     OfBoth told net schedule (λ net_bytes bytes. OneFails net net_bytes text (ReleasesFail schedule bytes text))
 FileFails told (Capture net station file order) text =

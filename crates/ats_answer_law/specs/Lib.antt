@@ -7,3 +7,5 @@ pub mod Reached
 pub mod NoneMade
 pub mod Meant
 pub mod JustOne
+pub mod Concluded
+pub mod Replied

@@ -7,20 +7,23 @@ use Rattle.ats_streams.specs.Traffic.{is_declared_size}
 use Rattle.ats_group.specs.Group.{Offer}
 use Rattle.ats_group.specs.Judge.{ats_judge}
 use Rattle.ats_group_law.specs.Regulator.{passed_by}
-use Rattle.ats_network.specs.Class.{class_at}
+use Rattle.ats_network.specs.Class.{class_at, port_before}
+use Rattle.ats_topology.specs.Port.{port_at}
+use Rattle.ats_network.specs.Bridges.{IsBridgeAt}
 use Rattle.ats_network.specs.Network.{DeclaredNetwork}
+use Rattle.ats_network.specs.Sender.{stream_sender}
 use Rattle.ats_network.specs.Senders.{sender_at}
 use Rattle.ats_trace.specs.Eligibility.{declared_by, residence_of_groups}
 use Rattle.ats_trace.specs.Journey.{Travel}
 use Rattle.ats_trace.specs.Run.{IsLegal, releases_of}
 use Rattle.ats_trace.specs.Talker.{talker_of, KeepsBuckets}
-use Rattle.ats_trace.specs.Ways.{listener_count}
+use Rattle.ats_trace.specs.Ways.{listener_count, route_to, way_to}
 use Rattle.ats_trace.specs.declared.journey.Release.{Release}
 use Rattle.ats_certificate.specs.Certificate.{Holds}
 use Rattle.ats_certificate.specs.declared.row.Row.{Row}
 use Rattle.ats_bound.specs.Least.{least_certificate}
-use Rattle.ats_soundness_law.specs.Sound.{IsServed}
-use Rattle.ats_checker.specs.InTime.{ArrivesInTime}
+use Rattle.ats_soundness_law.specs.Sound.{IsServed, IsServedOn}
+use Rattle.ats_checker.specs.InTime.{ArrivesInTime, ArrivesInTimeOn}
 use Rattle.ats_lrq.specs.Judge.{lrq_judge}
 use Rattle.ats_shape.specs.Shape.{DeclaredShape}
 use Rattle.ats_shape.specs.Verdicts.{declared_in, offer_of}
@@ -36,6 +39,7 @@ use Rattle.ats_command_due.specs.Calls.{ReadRose}
 use Rattle.ats_command_due.specs.Due.{Reaches}
 use Rattle.ats_command_due.specs.Generated.{least_sums}
 use Rattle.ats_command_law.specs.BufferMeaning.{IsRoomAt}
+use Rattle.ats_command_law.specs.CaptureBounds.{CapturedAreWithin}
 use Rattle.ats_command_law.specs.ConformBounds.{AllDelaysAreWithin}
 use Rattle.ats_command_law.specs.GenerateMeaning.{AreWithinLeast, EachWorstIsWithin}
 use Rattle.ats_command_law.specs.LrqMeaning.{EachConforms}
@@ -51,11 +55,32 @@ abbrev pub IsServedInTime : DeclaredNetwork → List Row → DeclaredStream → 
 IsServedInTime network rows stream journey =
     IsServed rows (sender_at network journey.release.sender) journey × ArrivesInTime rows stream journey
 
--- of delays: each frame whose own talker keeps its buckets is within the bounds of rows; so is each frame, whichever,
--- and by the least bounds where some certificate holds; and the worst delay to each listener is within the bound to it
+-- so it is on its way to one of them
+abbrev pub IsServedInTimeTo : DeclaredNetwork → List Row → DeclaredStream → Travel → ℕ → Type 0
+IsServedInTimeTo network rows stream journey listener =
+    IsServedOn rows (sender_at network journey.release.sender) journey.release
+    (route_to (sender_at network journey.release.sender) listener)
+    (way_to (sender_at network journey.release.sender) journey listener)
+    × ArrivesInTimeOn rows stream journey.release (route_to (stream_sender stream) listener)
+    (way_to (stream_sender stream) journey listener).ending
+
+-- of delays: each frame whose own talker keeps its buckets is within the bounds of rows on its way to each listener
+-- such that the bridges there keep theirs; by the releases of a capture, nothing is asked of bridges; so is each frame,
+-- whichever, and by the least bounds where some certificate holds; and the worst delay to each listener is within the
+-- bound to it
 pub record DelaysAreMeant : Type 0 where
   pub of_talkers : (network : DeclaredNetwork) (rows : List Row) (releases : List Release) (run : List Travel)
       → DelaysAreWithin network rows releases run
+      → (journey : Travel) → Contains run journey
+      → (stream : DeclaredStream) → slice_get network.streams journey.release.sender ≡ Some stream
+      → KeepsBuckets network releases (talker_of network journey.release.sender)
+      → (listener : ℕ) → listener < listener_count (sender_at network journey.release.sender)
+      → All (λ p. IsBridgeAt network.topology (port_at network.topology.ports p).from
+      → KeepsBuckets network releases (port_at network.topology.ports p).from)
+      (route_to (sender_at network journey.release.sender) listener)
+      → IsServedInTimeTo network rows stream journey listener
+  pub of_captured : (network : DeclaredNetwork) (rows : List Row) (releases : List Release) (run : List Travel)
+      → CapturedAreWithin network rows releases run
       → (journey : Travel) → Contains run journey
       → (stream : DeclaredStream) → slice_get network.streams journey.release.sender ≡ Some stream
       → KeepsBuckets network releases (talker_of network journey.release.sender)
@@ -74,14 +99,20 @@ pub record DelaysAreMeant : Type 0 where
       → bound_of network (least_sums network) sender listener ≡ Some bound
       → (summary_for network run sender listener).worst.0 ≤ bound
 
--- of bridges: a port has room for what it holds of a class where the talkers of this class keep their buckets; bridges
+-- of bridges: a port has room for what it holds of a class where the talkers of this class keep their buckets, and so
+-- do the bridges that the port, or the port before it on a stream's way, leaves, as is written out here; bridges
 -- that are set alike judge the frames of a group alike, and let the same sizes pass; and what a regulator of the other
 -- kind lets through conforms to the rate and the longest frame
 pub record BridgesAreMeant : Type 0 where
   pub room : (network : DeclaredNetwork) (port class bits : ℕ) → IsRoomAt network port class bits
       → (run : List Travel) → IsLegal network run
       → ((i : ℕ) → i < length network.streams → class_at (sender_at network i) port ≡ class
-      → KeepsBuckets network (releases_of run) (talker_of network i))
+      → KeepsBuckets network (releases_of run) (talker_of network i)
+      × (IsBridgeAt network.topology (port_at network.topology.ports port).from
+      → KeepsBuckets network (releases_of run) (port_at network.topology.ports port).from)
+      × ((q : ℕ) → port_before (sender_at network i) port ≡ Some q
+      → IsBridgeAt network.topology (port_at network.topology.ports q).from
+      → KeepsBuckets network (releases_of run) (port_at network.topology.ports q).from))
       → (time : ℕ) → occupancy network run port class time ≤ bits
   pub groups : (one other : DeclaredNetwork) (settings : List Setting) → JudgeAlike one other settings
       → (port : ℕ) (offers : List Offer) → All (IsKnown one other settings port) offers

@@ -1,6 +1,7 @@
 //! What each answer that is due to a command says of the bytes that are told under the names of its files.
 
 ghost use Rattle.ats_answer_law.specs.Accepted.{PromisesAreSound};
+ghost use Rattle.ats_answer_law.specs.Concluded.{ConclusionsAreMeant};
 ghost use Rattle.ats_answer_law.specs.Due.{AdmitIsDue, BoundIsDue, CaptureIsDue, CheckIsDue, ConformIsDue};
 ghost use Rattle.ats_answer_law.specs.Due.{ExplainIsDue, GenerateIsDue, ReplayIsDue, ShapeIsDue, ShowIsDue};
 ghost use Rattle.ats_answer_law.specs.Due.{BuffersAreDue, LrqBoundIsDue, LrqCheckIsDue, LrqShapeIsDue, PeaksAreDue};
@@ -11,6 +12,7 @@ ghost use Rattle.ats_answer_law.specs.JustOne.{JustOneIsLeft};
 ghost use Rattle.ats_answer_law.specs.Meant.{NothingLessIsMeant};
 ghost use Rattle.ats_answer_law.specs.NoneMade.{NoneAreMadeForFaults};
 ghost use Rattle.ats_answer_law.specs.Reached.{LaterFilesWait};
+ghost use Rattle.ats_answer_law.specs.Replied.{RepliesAreMeant};
 ghost use Rattle.ats_answer_law.specs.Runs.{PeaksAreHeld, RunsKeepTheirOrder};
 
 use ats_command_law::laws::{
@@ -211,9 +213,9 @@ pub fn none_are_made_for_faults()
 {}
 
 /// What the words come to in which the laws of `ats_command_law` say what follows: of delays, each frame is served and
-/// in time whose own talker keeps its buckets, and so for all, for the least bounds, and for each worst delay; of
-/// bridges, how much room there is, and what those judge alike that are set alike. And a fault came at a file that the
-/// words of the command name.
+/// in time whose own talker and bridges keep their buckets, and so for all, for the least bounds, and for each worst
+/// delay; of bridges, how much room there is, and what those judge alike that are set alike. And a fault came at a file
+/// that the words of the command name.
 pub fn nothing_less_is_meant()
     ensures { NothingLessIsMeant }
 {}
@@ -222,4 +224,18 @@ pub fn nothing_less_is_meant()
 /// nothing of which there may be several texts. An answer is due, and each that is due is this one.
 pub fn just_one_is_left()
     ensures { JustOneIsLeft }
+{}
+
+/// What words come to that the laws of `ats_command_law` conclude, and no law asks for: that a burst is just enough,
+/// and each stream has one; why no releases are made; that the texts of `check`, `replay` and `generate` are those of a
+/// network, rows, releases and a run, whose delays are within what is printed; that buffers are room for all that a
+/// port holds; and that a network is soundly bounded. Each part is written out.
+pub fn conclusions_are_meant()
+    ensures { ConclusionsAreMeant }
+{}
+
+/// What each answer to a request says of the network before it and of the one after it, and an answer to `bound` of the
+/// bytes of its file, part by part; and which of them never come.
+pub fn replies_are_meant()
+    ensures { RepliesAreMeant }
 {}

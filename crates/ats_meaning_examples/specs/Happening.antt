@@ -10,7 +10,7 @@ use Rattle.ats_examples.specs.Networks.{line}
 
 -- What it comes to that a delay can happen, in the words of runs alone.
 
--- a run is legal, and every station keeps its buckets in it; this frame of the stream is in it, and arrives at the
+-- a run is legal, and every node keeps its buckets in it; this frame of the stream is in it, and arrives at the
 -- listener so long after its release
 pub record IsShownBy (network : DeclaredNetwork) (stream listener delay : ℕ) (run : List Travel) (journey : Travel)
     : Type 0 where

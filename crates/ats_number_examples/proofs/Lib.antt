@@ -2,3 +2,4 @@ pub mod CountedProofs
 pub mod ToldProofs
 pub mod ShortTest
 pub mod PremiseProofs
+pub mod AnswersMeant

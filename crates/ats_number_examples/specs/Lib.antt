@@ -2,3 +2,4 @@ pub mod Networks
 pub mod Counted
 pub mod Told
 pub mod Premises
+pub mod Answered

@@ -1,5 +1,6 @@
 //! More than one late stream, hop, frame, or admission, on closed examples.
 
+ghost use Rattle.ats_number_examples.specs.Answered.{AnswersAreMeant};
 ghost use Rattle.ats_number_examples.specs.Counted.{NumbersAreCounted};
 ghost use Rattle.ats_number_examples.specs.Premises.{PremisesAreMet};
 ghost use Rattle.ats_number_examples.specs.Told.{NumbersAreTold};
@@ -19,4 +20,10 @@ pub fn numbers_are_told()
 /// alike and not the same, and by answers.
 pub fn premises_are_met()
     ensures { PremisesAreMet }
+{}
+
+/// What the law on answers asks of them: as many as requests, each with numbers of at most 64 digits, ports that are
+/// there and names, and a reason for each of the seven classes where none will do.
+pub fn answers_are_meant()
+    ensures { AnswersAreMeant }
 {}
