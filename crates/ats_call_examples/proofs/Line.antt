@@ -12,6 +12,7 @@ use Rattle.ats_network_file.specs.Reading.{network_of}
 use Rattle.ats_network_file.specs.Senders.{all_added, flow_added, refusal_of, stream_added, stream_made, stream_over}
 use Rattle.ats_network_file.specs.declared.fault.NetFault.{NetFault}
 use Rattle.ats_network_file.specs.declared.senders.SenderTable.TheVariants.{Stream}
+use Rattle.ats_network_table.specs.declared.format.Format.TheVariants.{One}
 use Rattle.ats_network_toml.specs.Document as file
 use Rattle.ats_network_toml.specs.Document.{ends}
 use Rattle.ats_network_toml.specs.Reading.{document_of}
@@ -23,7 +24,7 @@ use Rattle.ats_examples.proofs.NetworkTest.{valid_from_by}
 use Rattle.ats_examples.specs.Networks.{line_links, line_nodes}
 use Rattle.ats_examples.specs.Runs.{hop, sunk}
 use Rattle.ats_file_examples.proofs.Parsing.{parsed}
-use Rattle.ats_file_examples.proofs.Steps.{document_is, legs_is, network_is, one_leg, one_more, stream_is}
+use Rattle.ats_file_examples.proofs.Steps.{at_stream, document_is, legs_is, network_is, one_leg, one_more, stream_is}
 use Rattle.ats_call_examples.specs.Files.{faulty_with, late, network, no_text, overloaded}
 use Rattle.ats_call_examples.specs.Run.{still}
 
@@ -53,6 +54,7 @@ entry_with rate deadline = record {
 
 abbrev document_with : ℕ → ℕ → file.DeclaredDocument
 document_with rate deadline = record {
+  format = One;
   stations = record { name = codes "s1" } ∷ record { name = codes "s2" } ∷ [];
   bridges =
       record { name = codes "b1"; processing_min_ns = 1000; processing_max_ns = 1000; residence_ns = 1000000 } ∷ [];
@@ -60,7 +62,9 @@ document_with rate deadline = record {
       record { a = codes "s1"; b = codes "b1"; mbps = 1000; propagation_ns = 500 }
       ∷ record { a = codes "b1"; b = codes "s2"; mbps = 1000; propagation_ns = 500 } ∷ [];
   streams = entry_with rate deadline ∷ [];
+  link_locals = [];
   flows = [];
+  link_local_flows = [];
 }
 
 abbrev empty : DeclaredNetwork
@@ -69,17 +73,18 @@ empty = declared_network line.topology [] []
 -- the network with the stream of such an entry, where it is added
 abbrev with_entry : ℕ → ℕ → Result DeclaredNetwork NetFault
 with_entry rate deadline =
-    stream_made 1 (entry_with rate deadline) (stream_over (one_leg (0 ∷ 2 ∷ [])) (entry_with rate deadline))
-    >>= λ stream. unless (refusal_of Stream 1) (stream_push_fault empty stream) (with_stream empty stream)
+    stream_made 16 (at_stream 1) (entry_with rate deadline)
+    (stream_over (one_leg (0 ∷ 2 ∷ [])) (entry_with rate deadline))
+    >>= λ stream. unless (refusal_of (at_stream 1)) (stream_push_fault empty stream) (with_stream empty stream)
 
 text_is : (text : List ℕ) (rate deadline : ℕ) → document_of text ≡ Ok (document_with rate deadline)
     → with_entry rate deadline ≡ Ok (line_with rate deadline) → network_of text ≡ Ok (line_with rate deadline)
 text_is text rate deadline tables made =
     network_is text (document_with rate deadline) (Ok (line_with rate deadline)) tables
-    (ap (λ (s : Result DeclaredNetwork NetFault). s >>= λ streamed. all_added flow_added streamed 1 [])
-    (one_more stream_added empty (line_with rate deadline) 1 (entry_with rate deadline) []
-    (stream_is empty 1 (entry_with rate deadline) (one_leg (0 ∷ 2 ∷ [])) (Ok (line_with rate deadline))
-    (legs_is line.topology 1 (ends (codes "s1") (codes "s2") ∷ []) (0 ∷ 2 ∷ []) refl
+    (ap (λ (s : Result DeclaredNetwork NetFault). s >>= λ streamed. all_added (flow_added One) streamed [])
+    (one_more (stream_added One) empty (line_with rate deadline) (at_stream 1) (entry_with rate deadline) []
+    (stream_is One empty (at_stream 1) (entry_with rate deadline) (one_leg (0 ∷ 2 ∷ [])) (Ok (line_with rate deadline))
+    (legs_is One line.topology (at_stream 1) (ends (codes "s1") (codes "s2") ∷ []) (0 ∷ 2 ∷ []) refl refl
     (valid_from_by line.topology 0 (0 ∷ 2 ∷ []) refl)) made)))
 
 -- the files of the three networks
@@ -106,11 +111,14 @@ still_network = declared_network
 
 abbrev still_document : file.DeclaredDocument
 still_document = record {
+  format = One;
   stations = record { name = codes "s1" } ∷ record { name = codes "s2" } ∷ [];
   bridges = [];
   links = record { a = codes "s1"; b = codes "s2"; mbps = 1000; propagation_ns = 500 } ∷ [];
   streams = [];
+  link_locals = [];
   flows = [];
+  link_local_flows = [];
 }
 
 still_text_is : network_of still ≡ Ok still_network

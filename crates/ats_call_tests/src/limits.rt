@@ -45,6 +45,7 @@ fn push_stream(
     )
     .expect(rt, "a stream");
     assert!(rt; network.valid_path(stream.ports()));
+    assert!(rt; stream.has_short_routes(network.most_ports()));
     fault(rt, network.push_stream(stream))
 }
 
@@ -66,16 +67,17 @@ fn push_flow(
     let path = Vec::from_slice(rt.alloc(), &[0]).expect(rt, "room");
     let flow = Flow::new(name(rt, number), path, 1522).expect(rt, "a flow");
     assert!(rt; network.valid_path(flow.path()));
+    assert!(rt; flow.has_short_path(network.most_ports()));
     fault(rt, network.push_flow(flow))
 }
 
 #[test]
 fn limit_of_flows(rt: HostRuntime) {
     let mut network = two_stations(&rt);
-    for number in 0..1024 {
+    for number in 0..4096 {
         assert!(rt; push_flow(&rt, &mut network, number).is_none());
     }
-    assert!(rt; push_flow(&rt, &mut network, 1024) == Some(PushFault::Limit));
+    assert!(rt; push_flow(&rt, &mut network, 4096) == Some(PushFault::Limit));
 }
 
 // Whether a fault is told in this word.

@@ -8,6 +8,7 @@ use Rattle.ats_network.specs.Network.{DeclaredNetwork, senders_of}
 use Rattle.ats_network.specs.Path.{IsValidPath}
 use Rattle.ats_network.specs.Sender.{stream_sender}
 use Rattle.ats_network.specs.Senders.{sender_at}
+use Rattle.ats_network_table.specs.declared.format.Format.TheVariants.{Two}
 use Rattle.ats_network_toml.specs.Document.{path}
 use Rattle.ats_certificate.specs.declared.row.Row.{Row}
 use Rattle.ats_streams.specs.Stream.{DeclaredStream}
@@ -26,6 +27,7 @@ use Rattle.ats_examples.proofs.PortTest.{of_eq}
 use Rattle.ats_examples.proofs.Tests.{all_by, below_by, each_below, implied}
 use Rattle.ats_file_examples.proofs.Steps.{legs_is, path_is}
 use Rattle.ats_edge_examples.specs.Runs.{LastReleaseIsMade, LastVerdictCounts, LongMovesNothing, PathsAreShort}
+use Rattle.ats_edge_examples.specs.Runs.{first_flow, first_stream}
 use Rattle.ats_edge_examples.specs.Runs.{ReleasesAreInOrder, RunsAreAtEdges, TalkersAreApart, TimeIsOver}
 use Rattle.ats_edge_examples.specs.Runs.{arrives, ends_early, pair, release, second_is_long, until}
 
@@ -111,8 +113,8 @@ back_is = valid_from_by pair 1 (1 ∷ []) refl
 paths_are_short : PathsAreShort
 paths_are_short = record {
   valid = there_is;
-  stream = legs_is pair 1 (path (codes "a" ∷ codes "b" ∷ []) ∷ []) (0 ∷ []) refl there_is;
-  flow = path_is pair 1 (path (codes "b" ∷ codes "a" ∷ [])) (1 ∷ []) refl back_is;
+  stream = legs_is Two pair first_stream (path (codes "a" ∷ codes "b" ∷ []) ∷ []) (0 ∷ []) refl refl there_is;
+  flow = path_is Two pair first_flow (path (codes "b" ∷ codes "a" ∷ [])) (1 ∷ []) refl refl back_is;
 }
 
 last_release_is_made : LastReleaseIsMade

@@ -4,7 +4,10 @@ use Rattle.ats_streams.specs.Stream.{DeclaredStream, declared_stream}
 use Rattle.ats_streams.specs.declared.traffic.Declared.{Declared}
 use Rattle.ats_network.specs.Network.{DeclaredNetwork, declared_network}
 use Rattle.ats_network.specs.Path.{IsValidPath}
+use Rattle.ats_network_table.specs.declared.format.Format.TheVariants.{Two}
 use Rattle.ats_network_file.specs.Senders.{legs_in, path_in}
+use Rattle.ats_network_file.specs.declared.senders.Place.{Place}
+use Rattle.ats_network_file.specs.declared.senders.SenderTable.TheVariants as entry_of
 use Rattle.ats_network_toml.specs.Document.{path}
 use Rattle.ats_group.specs.Group.{Offer}
 use Rattle.ats_group.specs.declared.verdict.Verdict.TheVariants.{Eligible, Late, Size}
@@ -105,12 +108,19 @@ pub record LongMovesNothing : Type 0 where
 abbrev pub pair : DeclaredTopology
 pair = topology_of (station (codes "a") ∷ station (codes "b") ∷ []) (link (codes "a") (codes "b") ∷ [])
 
+-- the first stream of a file, and the first flow
+abbrev pub first_stream : Place
+first_stream = record { table = entry_of.Stream; number = 1 }
+
+abbrev pub first_flow : Place
+first_flow = record { table = entry_of.Flow; number = 1 }
+
 -- a path may be one port
 pub record PathsAreShort : Type 0 where
   pub valid : IsValidPath pair (0 ∷ [])
-  pub stream : legs_in pair 1 (path (codes "a" ∷ codes "b" ∷ []) ∷ [])
+  pub stream : legs_in Two pair first_stream (path (codes "a" ∷ codes "b" ∷ []) ∷ [])
       ≡ Ok (record { ports = 0 ∷ []; branches = [] })
-  pub flow : path_in pair 1 (path (codes "b" ∷ codes "a" ∷ [])) ≡ Ok (1 ∷ [])
+  pub flow : path_in Two pair first_flow (path (codes "b" ∷ codes "a" ∷ [])) ≡ Ok (1 ∷ [])
 
 -- a stream of 1 bit per second over the line, whose frames of 10,000 bits take 10^16 ps each
 abbrev pub slow : DeclaredNetwork

@@ -86,7 +86,7 @@ pub record ShapesAreCut : Type 0 where
 
 -- what is read of these lines over the worked network
 abbrev pub asked_of : List ℕ → Result (List Request) RequestFault
-asked_of text = requests_of way.topology (codes "withdraw a\n" ++ text)
+asked_of text = requests_of way (codes "withdraw a\n" ++ text)
 
 -- each number of an `admit` line has at most 18 digits, which is judged before its nodes
 pub record NumbersAreShort : Type 0 where

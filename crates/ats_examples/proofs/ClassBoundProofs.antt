@@ -55,16 +55,16 @@ pub classes_are_sound : ClassesAreSound
 classes_are_sound = record {
   certified = certified;
   not_of_one_class = not_of_one_class;
-  lowered = served_in fork_of_classes hop_rows second_goes_first (travel_at second_goes_first 0) certified
+  lowered = served_in fork_of_classes hop_rows second_goes_first (travel_at second_goes_first 0) certified refl
       together_legal (0, lit< tt, refl) (lit< tt) together_kept;
-  other = served_in fork_of_classes hop_rows second_goes_first (travel_at second_goes_first 1) certified
+  other = served_in fork_of_classes hop_rows second_goes_first (travel_at second_goes_first 1) certified refl
       together_legal (1, lit< tt, refl) (lit< tt) other_kept;
   sum_of_lowered = refl;
   sum_of_other = refl;
   legal = behind_legal;
   keeps = behind_kept;
   other_keeps = keeps_by fork_of_classes (releases_of (behind_two 6720000)) (talker_of fork_of_classes 1) refl refl;
-  served = served_in fork_of_classes hop_rows (behind_two 6720000) (travel_at (behind_two 6720000) 0) certified
+  served = served_in fork_of_classes hop_rows (behind_two 6720000) (travel_at (behind_two 6720000) 0) certified refl
       behind_legal (0, lit< tt, refl) (lit< tt) behind_kept;
   beyond = beyond;
   sooner = legal_by fork_of_classes (behind_two 6719999) refl;

@@ -24,6 +24,7 @@ use Rattle.ats_examples.specs.Rows.{line_rows}
 use Rattle.ats_examples.specs.Judges.{discards, discarded, RegulatorCounts}
 use Rattle.ats_examples.proofs.NetworkProofs.{line_is}
 use Rattle.ats_examples.proofs.LawsMetProofs.{laws_are_met}
+use Rattle.ats_examples.proofs.StationTest.{from_stations}
 
 abbrev run : List Travel
 run = discarded ∷ []
@@ -73,7 +74,8 @@ not_served : ¬ IsServed line_rows (sender_at line 0) discarded
 not_served served = (served 0 (lit< tt)).arrives
 
 unsound : ¬ IsSoundBy discards bucket_rule line line_rows
-unsound sound = not_served (sound.served run legal discarded (0, lit< tt, refl) (lit< tt) keeps)
+unsound sound = not_served ((from_stations bucket_rule discards line line_rows refl sound).served run legal discarded
+    (0, lit< tt, refl) (lit< tt) keeps)
 
 pub regulator_counts : RegulatorCounts
 regulator_counts = record {

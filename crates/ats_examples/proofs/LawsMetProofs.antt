@@ -1,4 +1,4 @@
-use Rattle.std.proofs.Common.{◌+◌, ◌*◌, ◌≤◌, refl, arith, lit<, lit≤}
+use Rattle.std.proofs.Common.{◌+◌, ◌*◌, ◌≤◌, [], ◌∷◌, refl, arith, lit<, lit≤}
 use Rattle.ats_network.specs.Senders.{sender_at}
 use Rattle.ats_certificate.specs.Certificate.{Holds}
 use Rattle.ats_trace.specs.Run.{releases_of}
@@ -7,9 +7,11 @@ use Rattle.ats_soundness_law.specs.Sound.{IsPromptIfEligible, IsServed, bounds_o
 use Rattle.ats_examples.specs.Networks.{line}
 use Rattle.ats_examples.specs.Rows.{line_rows}
 use Rattle.ats_examples.specs.Runs.{regulated}
-use Rattle.ats_examples.specs.LawsMet.{held_back, LawsAreMet}
+use Rattle.ats_examples.specs.LawsMet.{held_back, BridgesAreMet, LawsAreMet}
+use Rattle.ats_examples.specs.OwnFrames.{own, own_frames}
 use Rattle.ats_examples.proofs.LegalProofs.{examples_legal, regulated_legal}
 use Rattle.ats_examples.proofs.NetworkProofs.{line_is}
+use Rattle.ats_examples.proofs.OwnFrameProofs.{keep_by, own_certified, own_legal, own_served}
 use Rattle.ats_examples.proofs.RuleTest.{holds_by}
 use Rattle.ats_examples.proofs.TalkerProofs.{talkers_of_examples}
 
@@ -52,4 +54,18 @@ laws_are_met = record {
   not_kept = not_kept;
   not_served = not_served;
   not_prompt = not_prompt;
+}
+
+pub bridges_are_met : BridgesAreMet
+bridges_are_met = record {
+  network = own_certified.rules;
+  holds = own_certified.holds;
+  legal = own_legal;
+  among = (2, lit< tt, refl);
+  of_stream = lit< tt;
+  keeps = own_served.station_keeps;
+  bridge = own_served.bridge;
+  begins_there = refl;
+  ends_there = refl;
+  bridges_keep = keep_by own (releases_of own_frames) (0 ∷ 2 ∷ []) refl refl;
 }

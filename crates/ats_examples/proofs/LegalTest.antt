@@ -206,9 +206,11 @@ judged_by network residence_ns handed h =
       verdicts = verdicts_are told due parts.1;
     }
 
--- the frame is of class 6 or 5, or of class 0
+-- the frame is of class 7, 6 or 5, or of class 0
 abbrev pub is_of_known : Handed → Bool
-is_of_known h = h.crossing.sent.class == 6 || (h.crossing.sent.class == 5 || h.crossing.sent.class == 0)
+is_of_known h =
+    h.crossing.sent.class == 7
+    || (h.crossing.sent.class == 6 || (h.crossing.sent.class == 5 || h.crossing.sent.class == 0))
 
 no_class : (a b : ℕ) → a ≡ 0 → a ≡ b → 1 ≤ b → ⊥
 no_class a b none same least = omega arith
@@ -218,20 +220,24 @@ and_false true b h = h
 and_false false b h = refl
 
 -- so there is none of another class
-no_others : (port class : ℕ) → 1 ≤ class → class ≢ 6 → class ≢ 5 → (handed : List Handed) → list_all is_of_known handed
-    ≡ true → filter (λ (h : Handed). h.crossing.port == port && h.crossing.sent.class == class) handed ≡ []
-no_others port class least six five [] passed = refl
-no_others port class least six five (h ∷ handed) passed =
+no_others : (port class : ℕ) → 1 ≤ class → class ≢ 7 → class ≢ 6 → class ≢ 5 → (handed : List Handed)
+    → list_all is_of_known handed ≡ true
+    → filter (λ (h : Handed). h.crossing.port == port && h.crossing.sent.class == class) handed ≡ []
+no_others port class least seven six five [] passed = refl
+no_others port class least seven six five (h ∷ handed) passed =
     let parts : (is_of_known h ≡ true) × (list_all is_of_known handed ≡ true) =
     and_parts (is_of_known h) (list_all is_of_known handed) passed in
     let rest : filter (λ (k : Handed). k.crossing.port == port && k.crossing.sent.class == class) handed ≡ [] =
-    no_others port class least six five handed parts.1 in
-    let differs : h.crossing.sent.class ≢ class = λ same.
-    elim (either (h.crossing.sent.class == 6) (h.crossing.sent.class == 5 || h.crossing.sent.class == 0) parts.0) [
-      | inl e ↦ six (sym same ∙ eq_of h.crossing.sent.class 6 e)
-      | inr more ↦ elim (either (h.crossing.sent.class == 5) (h.crossing.sent.class == 0) more) [
-        | inl e ↦ five (sym same ∙ eq_of h.crossing.sent.class 5 e)
-        | inr none ↦ absurd (no_class h.crossing.sent.class class (eq_of h.crossing.sent.class 0 none) same least)
+    no_others port class least seven six five handed parts.1 in
+    let own : ℕ = h.crossing.sent.class in
+    let differs : own ≢ class = λ same. elim (either (own == 7) (own == 6 || (own == 5 || own == 0)) parts.0) [
+      | inl e ↦ seven (sym same ∙ eq_of own 7 e)
+      | inr lower ↦ elim (either (own == 6) (own == 5 || own == 0) lower) [
+        | inl e ↦ six (sym same ∙ eq_of own 6 e)
+        | inr more ↦ elim (either (own == 5) (own == 0) more) [
+          | inl e ↦ five (sym same ∙ eq_of own 5 e)
+          | inr none ↦ absurd (no_class own class (eq_of own 0 none) same least)
+        ]
       ]
     ] in
     let fails : (h.crossing.sent.class == class) ≡ false = ne_of h.crossing.sent.class class differs in
@@ -247,8 +253,9 @@ group_passes network run class p = judged_pass network (residence_of_groups netw
 abbrev pub groups_pass : DeclaredNetwork → List Travel → Bool
 groups_pass network run =
     list_all is_of_known (handed_from network 0 run)
+    && (each_below (group_passes network run 7) (length network.topology.ports)
     && (each_below (group_passes network run 6) (length network.topology.ports)
-    && each_below (group_passes network run 5) (length network.topology.ports))
+    && each_below (group_passes network run 5) (length network.topology.ports)))
 
 pub groups_by : (network : DeclaredNetwork) (run : List Travel) → groups_pass network run ≡ true
     → (port class : ℕ) → port < length network.topology.ports → 1 ≤ class
@@ -256,19 +263,23 @@ pub groups_by : (network : DeclaredNetwork) (run : List Travel) → groups_pass 
 groups_by network run passed port class within least =
     let ports : ℕ = length network.topology.ports in
     let of_class : ℕ → Bool = λ c. each_below (group_passes network run c) ports in
-    let parts : (list_all is_of_known (handed_from network 0 run) ≡ true) × ((of_class 6 && of_class 5) ≡ true) =
-    and_parts (list_all is_of_known (handed_from network 0 run)) (of_class 6 && of_class 5) passed in
-    let each : (of_class 6 ≡ true) × (of_class 5 ≡ true) = and_parts (of_class 6) (of_class 5) parts.1 in
+    let parts = and_parts (list_all is_of_known (handed_from network 0 run))
+    (of_class 7 && (of_class 6 && of_class 5)) passed in
+    let first = and_parts (of_class 7) (of_class 6 && of_class 5) parts.1 in
+    let each : (of_class 6 ≡ true) × (of_class 5 ≡ true) = and_parts (of_class 6) (of_class 5) first.1 in
     let judged : (c : ℕ) → of_class c ≡ true
     → IsJudged ats_judge network (residence_of_groups network port) (handed_by network run port c) =
     λ c h. judged_by network (residence_of_groups network port) (handed_by network run port c)
     (below_by (group_passes network run c) ports h port within) in
-    elim (cases_eq class 6) [
-      | inl same ↦ rw same (judged 6 each.0)
-      | inr six ↦ elim (cases_eq class 5) [
-        | inl same ↦ rw same (judged 5 each.1)
-        | inr five ↦ rw (no_others port class least six five (handed_from network 0 run) parts.0)
-            (judged_by network (residence_of_groups network port) [] refl)
+    elim (cases_eq class 7) [
+      | inl same ↦ rw same (judged 7 first.0)
+      | inr seven ↦ elim (cases_eq class 6) [
+        | inl same ↦ rw same (judged 6 each.0)
+        | inr six ↦ elim (cases_eq class 5) [
+          | inl same ↦ rw same (judged 5 each.1)
+          | inr five ↦ rw (no_others port class least seven six five (handed_from network 0 run) parts.0)
+              (judged_by network (residence_of_groups network port) [] refl)
+        ]
       ]
     ]
 

@@ -14,6 +14,7 @@ pub mod LegalProofs
 pub mod LegalTest
 pub mod NetworkProofs
 pub mod NetworkTest
+pub mod OwnFrameProofs
 pub mod PaceProofs
 pub mod PartTest
 pub mod PortProofs
@@ -24,5 +25,6 @@ pub mod RuleRuns
 pub mod RuleTest
 pub mod SoundRunProofs
 pub mod SpreadBoundProofs
+pub mod StationTest
 pub mod TalkerProofs
 pub mod Tests

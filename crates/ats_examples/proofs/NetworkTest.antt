@@ -1,8 +1,8 @@
-use Rattle.std.proofs.Common.{◌≡◌, ◌≢◌, ℕ, ◌+◌, ◌<◌, ◌≤◌, Bool, true, false, ◌&&◌, List, [], ◌∷◌, length, sym, ap}
-use Rattle.std.proofs.Common.{refl, ◌∙◌, Option, Some, None, arith}
-use Rattle.std.specs.Prelude.{◌-◌, nat_le, nat_lt, not, ◌==◌, is_none, slice_index_or, AllPairs}
+use Rattle.std.proofs.Common.{◌≡◌, ◌≢◌, ℕ, ◌+◌, ◌<◌, ◌≤◌, Bool, true, false, ◌&&◌, ◌||◌, List, [], ◌∷◌, length, sym}
+use Rattle.std.proofs.Common.{ap, refl, ◌∙◌, Option, Some, None, arith, inl, inr}
+use Rattle.std.specs.Prelude.{nat_le, nat_lt, not, ◌==◌, is_none, slice_index_or, AllPairs}
 use Rattle.std.specs.List.{list_all}
-use Rattle.std.proofs.lemmas.Bool.{and_parts, false≢true, true≢false, eq-eqb, not-true}
+use Rattle.std.proofs.lemmas.Bool.{and_parts, false≢true, true≢false, eq-eqb, not-true, or_cases}
 use Rattle.std.proofs.lemmas.Option.{none-some}
 use Rattle.ats_num.specs.Places.{place_of}
 use Rattle.ats_num.specs.Wire.{bits_of}
@@ -29,7 +29,8 @@ use Rattle.ats_streams.specs.declared.path.TheConstants.{MAX_PORTS}
 use Rattle.ats_streams.specs.declared.stream.TheConstants.{MAX_CLASS, MAX_DEADLINE_NS}
 use Rattle.ats_network.specs.Sender.{Sender}
 use Rattle.ats_network.specs.Path.{IsBranch, IsTree, IsValidPath, node_of_branch, nodes_along}
-use Rattle.ats_network.specs.Network.{DeclaredNetwork, HasOneListener, IsNetwork, Share, declared_network, names_of}
+use Rattle.ats_network.specs.Network.{DeclaredNetwork, HasOneListener, HasShortPath, HasShortRoutes, IsMostPorts}
+use Rattle.ats_network.specs.Network.{IsNetwork, Share, declared_network, long_network, names_of, network_within}
 use Rattle.ats_network.specs.Network.{ports_together, senders_of}
 use Rattle.ats_network.specs.declared.network.TheConstants.{MAX_STREAMS, MAX_FLOWS, MAX_PORTS_TOGETHER}
 use Rattle.ats_examples.proofs.Tests.{le_of, lt_of, eq_of, all_by, pairs_pass, pairs_by, each_below, below_by}
@@ -90,16 +91,25 @@ ascend_by at (b ∷ branches) end h =
     let second = and_parts (nat_lt b.first end) rest first.1 in
     (lt_of at b.first first.0, lt_of b.first end second.0, ascend_by b.first branches end second.1)
 
--- each begins at a hop, other than the first, of an earlier leg
+-- each begins at a hop of an earlier leg that is not the first of a branch
 abbrev pub begins_earlier : List (List ℕ) → ℕ → Branch → Bool
-begins_earlier legs own b = nat_lt b.leg own && is_between 1 (length (leg_at legs b.leg) - 1) b.hop
+begins_earlier legs own b =
+    nat_lt b.leg own && (nat_lt b.hop (length (leg_at legs b.leg)) && (nat_lt 0 b.hop || b.leg == 0))
 
 begins_by : (legs : List (List ℕ)) (own : ℕ) (b : Branch) → begins_earlier legs own b ≡ true → BeginsEarlier legs own b
 begins_by legs own b h =
-    let most : ℕ = length (leg_at legs b.leg) - 1 in
-    let parts = and_parts (nat_lt b.leg own) (is_between 1 most b.hop) h in
-    let hop = between_by 1 most b.hop parts.1 in
-    record { earlier = lt_of b.leg own parts.0; later = hop.0; within = omega (arith, hop.0, hop.1) }
+    let long : ℕ = length (leg_at legs b.leg) in
+    let at : Bool = nat_lt 0 b.hop || b.leg == 0 in
+    let parts = and_parts (nat_lt b.leg own) (nat_lt b.hop long && at) h in
+    let hop = and_parts (nat_lt b.hop long) at parts.1 in
+    record {
+      earlier = lt_of b.leg own parts.0;
+      at_talker = λ zero. elim (or_cases (nat_lt 0 b.hop) (b.leg == 0) hop.1) as (λ _. b.leg ≡ 0) [
+        | inl later ↦ absurd (omega (arith, zero, lt_of 0 b.hop later))
+        | inr first ↦ eq_of b.leg 0 first
+      ];
+      within = lt_of b.hop long hop.0;
+    }
 
 abbrev pub begin_earlier : List (List ℕ) → ℕ → List Branch → Bool
 begin_earlier legs own [] = true
@@ -234,7 +244,7 @@ walk_by ports a (p ∷ path) h =
 abbrev pub is_station_at : DeclaredTopology → ℕ → Bool
 is_station_at t node = nat_lt node (length t.nodes) && is_station (node_at t.nodes node).kind
 
-station_by : (t : DeclaredTopology) (node : ℕ) → is_station_at t node ≡ true → IsStationAt t node
+pub station_by : (t : DeclaredTopology) (node : ℕ) → is_station_at t node ≡ true → IsStationAt t node
 station_by t node h =
     let parts = and_parts (nat_lt node (length t.nodes)) (is_station (node_at t.nodes node).kind) h in
     record { within = lt_of node (length t.nodes) parts.0; station = parts.1 }
@@ -250,49 +260,34 @@ starts_at ports (p ∷ path) = (port_at ports p).from
 abbrev pub is_valid_from : DeclaredTopology → ℕ → List ℕ → Bool
 is_valid_from t a path =
     walks t.ports a path
-    && (is_station_at t a
-    && (is_station_at t (end_along t.ports a path)
-    && (not (a == end_along t.ports a path) && pairs_pass (λ a b. not (a == b)) (nodes_along t.ports path))))
+    && (nat_le 1 (length path) && pairs_pass (λ a b. not (a == b)) (nodes_along t.ports path))
 
 pub valid_from_by : (t : DeclaredTopology) (a : ℕ) (path : List ℕ) → is_valid_from t a path ≡ true → IsValidPath t path
 valid_from_by t a path h =
-    let end : ℕ = end_along t.ports a path in
     let once : Bool = pairs_pass (λ a b. not (a == b)) (nodes_along t.ports path) in
-    let first = and_parts (walks t.ports a path)
-    (is_station_at t a && (is_station_at t end && (not (a == end) && once))) h in
-    let second = and_parts (is_station_at t a) (is_station_at t end && (not (a == end) && once)) first.1 in
-    let third = and_parts (is_station_at t end) (not (a == end) && once) second.1 in
-    let fourth = and_parts (not (a == end)) once third.1 in
+    let first = and_parts (walks t.ports a path) (nat_le 1 (length path) && once) h in
+    let second = and_parts (nat_le 1 (length path)) once first.1 in
     record {
       talker = a;
-      listener = end;
+      listener = end_along t.ports a path;
+      some = le_of 1 (length path) second.0;
       walk = walk_by t.ports a path first.0;
-      begins = station_by t a second.0;
-      ends = station_by t end third.0;
-      differ = apart_by a end fourth.0;
-      apart = pairs_by (λ a b. a ≢ b) (λ a b. not (a == b)) apart_by (nodes_along t.ports path) fourth.1;
+      apart = pairs_by (λ a b. a ≢ b) (λ a b. not (a == b)) apart_by (nodes_along t.ports path) second.1;
     }
 
 pub valid_by : (t : DeclaredTopology) (path : List ℕ) → is_valid_from t (starts_at t.ports path) path ≡ true
     → IsValidPath t path
 valid_by t path = valid_from_by t (starts_at t.ports path) path
 
--- a branch leads from the node where it begins to a station
+-- a branch leads on from the node where it begins
 abbrev pub is_branch : DeclaredTopology → List (List ℕ) → Branch → List ℕ → Bool
-is_branch t legs b path =
-    walks t.ports (node_of_branch t.ports legs b) path
-    && is_station_at t (end_along t.ports (node_of_branch t.ports legs b) path)
+is_branch t legs b path = walks t.ports (node_of_branch t.ports legs b) path
 
 branch_by : (t : DeclaredTopology) (legs : List (List ℕ)) (b : Branch) (path : List ℕ) → is_branch t legs b path ≡ true
     → IsBranch t legs b path
 branch_by t legs b path h =
     let node : ℕ = node_of_branch t.ports legs b in
-    let parts = and_parts (walks t.ports node path) (is_station_at t (end_along t.ports node path)) h in
-    record {
-      listener = end_along t.ports node path;
-      walk = walk_by t.ports node path parts.0;
-      ends = station_by t (end_along t.ports node path) parts.1;
-    }
+    record { listener = end_along t.ports node path; walk = walk_by t.ports node path h }
 
 abbrev pub branch_leads : DeclaredTopology → List ℕ → List Branch → ℕ → Bool
 branch_leads t ports branches n = is_branch t (legs_of ports branches) (slice_index_or branches n no_branch)
@@ -357,6 +352,26 @@ has_none s other = is_none s.identity
 own_by : (s other : DeclaredStream) → has_none s other ≡ true → (identity : ℕ × ℕ) → ¬ Share s other identity
 own_by s other h identity shared = no_identity s.identity h identity shared.one
 
+-- no route has more ports than this
+abbrev pub has_short_routes : ℕ → DeclaredStream → Bool
+has_short_routes most s = list_all (λ (route : List ℕ). nat_le (length route) most) (routes_of s.ports s.branches)
+
+short_routes_by : (most : ℕ) (s : DeclaredStream) → has_short_routes most s ≡ true → HasShortRoutes most s
+short_routes_by most s h =
+    all_by (λ (route : List ℕ). length route ≤ most) (λ (route : List ℕ). nat_le (length route) most)
+    (λ route. le_of (length route) most) (routes_of s.ports s.branches) h
+
+abbrev pub has_short_path : ℕ → DeclaredFlow → Bool
+has_short_path most f = nat_le (length f.path) most
+
+short_path_by : (most : ℕ) (f : DeclaredFlow) → has_short_path most f ≡ true → HasShortPath most f
+short_path_by most f h = le_of (length f.path) most h
+
+abbrev pub are_short : DeclaredNetwork → Bool
+are_short network =
+    list_all (has_short_routes network.most_ports) network.streams
+    && list_all (has_short_path network.most_ports) network.flows
+
 -- the streams, the flows, their ports and names
 abbrev pub network_passes : DeclaredNetwork → Bool
 network_passes network =
@@ -367,16 +382,16 @@ network_passes network =
     && (pairs_pass has_none network.streams
     && (nat_le (length network.streams) MAX_STREAMS
     && (nat_le (length network.flows) MAX_FLOWS
-    && nat_le (ports_together network.streams) MAX_PORTS_TOGETHER))))))
+    && (nat_le (ports_together network.streams) MAX_PORTS_TOGETHER && are_short network)))))))
 
-pub network_by : (nodes : List Node) (links : List Link) (streams : List DeclaredStream) (flows : List DeclaredFlow)
-    → topology_fault nodes links ≡ None
-    → network_passes (declared_network (topology_of nodes links) streams flows) ≡ true
-    → IsNetwork (declared_network (topology_of nodes links) streams flows)
-network_by nodes links streams flows sound h =
-    let network : DeclaredNetwork = declared_network (topology_of nodes links) streams flows in
+pub network_by_most : (most : ℕ) (nodes : List Node) (links : List Link) (streams : List DeclaredStream)
+    (flows : List DeclaredFlow) → IsMostPorts most → topology_fault nodes links ≡ None
+    → network_passes (network_within (topology_of nodes links) most streams flows) ≡ true
+    → IsNetwork (network_within (topology_of nodes links) most streams flows)
+network_by_most most nodes links streams flows of sound h =
+    let network : DeclaredNetwork = network_within (topology_of nodes links) most streams flows in
     let names : List (List ℕ) = names_of (senders_of network) in
-    let ports : Bool = nat_le (ports_together streams) MAX_PORTS_TOGETHER in
+    let ports : Bool = nat_le (ports_together streams) MAX_PORTS_TOGETHER && are_short network in
     let last : Bool = nat_le (length flows) MAX_FLOWS && ports in
     let few : Bool = pairs_pass has_none streams && (nat_le (length streams) MAX_STREAMS && last) in
     let found : Bool = each_below (is_found names) (length names) in
@@ -388,6 +403,8 @@ network_by nodes links streams flows sound h =
     let fifth = and_parts (pairs_pass has_none streams) (nat_le (length streams) MAX_STREAMS && last) fourth.1 in
     let sixth = and_parts (nat_le (length streams) MAX_STREAMS) last fifth.1 in
     let seventh = and_parts (nat_le (length flows) MAX_FLOWS) ports sixth.1 in
+    let eighth = and_parts (nat_le (ports_together streams) MAX_PORTS_TOGETHER) (are_short network) seventh.1 in
+    let ninth = and_parts (list_all (has_short_routes most) streams) (list_all (has_short_path most) flows) eighth.1 in
     record {
       topology = topology_rules nodes links sound;
       streams = all_by IsStream is_any_stream any_stream_by streams first.0;
@@ -400,5 +417,21 @@ network_by nodes links streams flows sound h =
           streams fifth.0;
       few_streams = le_of (length streams) MAX_STREAMS sixth.0;
       few_flows = le_of (length flows) MAX_FLOWS seventh.0;
-      few_ports = le_of (ports_together streams) MAX_PORTS_TOGETHER seventh.1;
+      few_ports = le_of (ports_together streams) MAX_PORTS_TOGETHER eighth.0;
+      most_ports = of;
+      short_streams = all_by (HasShortRoutes most) (has_short_routes most) (short_routes_by most) streams ninth.0;
+      short_flows = all_by (HasShortPath most) (has_short_path most) (short_path_by most) flows ninth.1;
     }
+
+-- so are those with short routes, and with long ones
+pub network_by : (nodes : List Node) (links : List Link) (streams : List DeclaredStream) (flows : List DeclaredFlow)
+    → topology_fault nodes links ≡ None
+    → network_passes (declared_network (topology_of nodes links) streams flows) ≡ true
+    → IsNetwork (declared_network (topology_of nodes links) streams flows)
+network_by nodes links streams flows = network_by_most 16 nodes links streams flows (inl refl)
+
+pub long_network_by : (nodes : List Node) (links : List Link) (streams : List DeclaredStream)
+    (flows : List DeclaredFlow) → topology_fault nodes links ≡ None
+    → network_passes (long_network (topology_of nodes links) streams flows) ≡ true
+    → IsNetwork (long_network (topology_of nodes links) streams flows)
+long_network_by nodes links streams flows = network_by_most 64 nodes links streams flows (inr refl)

@@ -4,7 +4,7 @@ use Rattle.ats_network.specs.Network.{DeclaredNetwork, IsNetwork}
 use Rattle.ats_network.specs.Senders.{sender_at}
 use Rattle.ats_certificate.specs.Certificate.{bound_at}
 use Rattle.ats_certificate.specs.declared.row.Row.{Row}
-use Rattle.ats_group.specs.Judge.{ats_judge}
+use Rattle.ats_group.specs.Judge.{ats_judge, bucket_rule}
 use Rattle.ats_group_law.proofs.Regulator.{ats_is_regulator}
 use Rattle.ats_trace.specs.Journey.{Travel, IsOfStream}
 use Rattle.ats_trace.specs.Run.{IsLegal, releases_of}
@@ -25,16 +25,18 @@ use Rattle.ats_examples.proofs.RuleRuns.{of_two, of_three, of_classes, of_fast, 
 use Rattle.ats_examples.proofs.RuleRuns.{three_kept, classes_legal, classes_kept, fast_legal, fast_kept, flow_legal}
 use Rattle.ats_examples.proofs.RuleRuns.{flow_kept, one_kept}
 use Rattle.ats_examples.proofs.RuleTest.{same_rule, others_pass, others_by, rest_passes, rest_by}
+use Rattle.ats_examples.proofs.StationTest.{begin_at_stations, from_stations}
 
 -- where a frame of a legal run, whose talker keeps its buckets, is not served, the rows are not sound
-pub unsound_by : (network : DeclaredNetwork) (given : List Row) (run : List Travel) (frame : ℕ) → IsLegal network run
-    → Contains run (travel_at run frame)
+pub unsound_by : (network : DeclaredNetwork) (given : List Row) (run : List Travel) (frame : ℕ)
+    → begin_at_stations network ≡ true → IsLegal network run → Contains run (travel_at run frame)
     → IsOfStream network (travel_at run frame)
     → KeepsBuckets network (releases_of run) (talker_of network (travel_at run frame).release.sender)
     → ¬ IsServed given (sender_at network (travel_at run frame).release.sender) (travel_at run frame)
     → ¬ IsSound network given
-unsound_by network given run frame legal among stream keeps unserved sound =
-    unserved (sound.served run legal (travel_at run frame) among stream keeps)
+unsound_by network given run frame stations legal among stream keeps unserved sound =
+    unserved ((from_stations bucket_rule ats_judge network given stations sound).served run legal (travel_at run frame)
+    among stream keeps)
 
 -- one rule and all others are all
 each : (rule : Rule) (network : DeclaredNetwork) (given : List Row)
@@ -68,11 +70,12 @@ two_unserved given short served =
 
 two_unsound : (given : List Row) → bound_at given 0 6 < 14508000 → ¬ IsSound (pair 1000000) given
 two_unsound given short =
-    unsound_by (pair 1000000) given of_two 1 two_legal (1, lit< tt, refl) (lit< tt) two_kept (two_unserved given short)
+    unsound_by (pair 1000000) given of_two 1 refl two_legal (1, lit< tt, refl) (lit< tt) two_kept
+    (two_unserved given short)
 
 -- the third frame is discarded
 three_unsound : (given : List Row) → ¬ IsSound (pair 12335) given
-three_unsound given = unsound_by (pair 12335) given of_three 2 three_legal (2, lit< tt, refl) (lit< tt) three_kept
+three_unsound given = unsound_by (pair 12335) given of_three 2 refl three_legal (2, lit< tt, refl) (lit< tt) three_kept
     (λ served. (served 0 (lit< tt)).prompt.1)
 
 fast_unserved : (equal : ℕ) → ¬ IsServed (fast_rows equal) (sender_at fast 0) (travel_at of_fast 1)
@@ -82,7 +85,8 @@ fast_unserved equal served =
 
 fast_unsound : (equal : ℕ) → ¬ IsSound fast (fast_rows equal)
 fast_unsound equal =
-    unsound_by fast (fast_rows equal) of_fast 1 fast_legal (1, lit< tt, refl) (lit< tt) fast_kept (fast_unserved equal)
+    unsound_by fast (fast_rows equal) of_fast 1 refl fast_legal (1, lit< tt, refl) (lit< tt) fast_kept
+    (fast_unserved equal)
 
 higher_unserved : ¬ IsServed (rows_for higher_is_right) (sender_at below 0) (travel_at of_classes 1)
 higher_unserved served =
@@ -109,14 +113,15 @@ at_rule rule is kept rest unsound =
 
 pub each_rule_counts : EachRuleCounts
 each_rule_counts rows_are_there = at_rule rows_are_there line_is refl refl (unsound_by line (rows_for rows_are_there)
-    one_frame 0 examples_legal.one_frame (0, lit< tt, refl) (lit< tt) one_kept missing_unserved)
+    one_frame 0 refl examples_legal.one_frame (0, lit< tt, refl) (lit< tt) one_kept missing_unserved)
 each_rule_counts higher_is_right = at_rule higher_is_right below_is refl refl (unsound_by below
-    (rows_for higher_is_right) of_classes 1 classes_legal (1, lit< tt, refl) (lit< tt) classes_kept higher_unserved)
+    (rows_for higher_is_right) of_classes 1 refl classes_legal (1, lit< tt, refl) (lit< tt) classes_kept
+    higher_unserved)
 each_rule_counts equal_is_right = at_rule equal_is_right fast_is refl refl (fast_unsound 1000000000000)
 each_rule_counts bursts_are_right =
     at_rule bursts_are_right (pair_is 1000000 refl refl) refl refl (two_unsound (rows_for bursts_are_right) (lit< tt))
 each_rule_counts lower_is_right = at_rule lower_is_right with_flow_is refl refl (unsound_by line_and_flow
-    (rows_for lower_is_right) behind_a_flow 1 flow_legal (1, lit< tt, refl) (lit< tt) flow_kept flow_unserved)
+    (rows_for lower_is_right) behind_a_flow 1 refl flow_legal (1, lit< tt, refl) (lit< tt) flow_kept flow_unserved)
 each_rule_counts least_is_right =
     at_rule least_is_right (pair_is 12335 refl refl) refl refl (three_unsound (rows_for least_is_right))
 each_rule_counts bound_follows =

@@ -1,4 +1,4 @@
-use Rattle.std.proofs.Common.{◌≡◌, ℕ, ◌+◌, ◌*◌, ◌<◌, ◌≤◌, List, [], ◌∷◌, length, get_or, All, refl, ap}
+use Rattle.std.proofs.Common.{◌≡◌, ℕ, ◌+◌, ◌*◌, ◌<◌, ◌≤◌, true, List, [], ◌∷◌, length, get_or, All, refl, ap}
 use Rattle.std.proofs.Common.{inl, inr, ◌⊎◌, arith, lit<, lit≤}
 use Rattle.std.specs.Prelude.{nat_lt, ◌==◌, AllPairs, Contains}
 use Rattle.std.proofs.lemmas.List.Elements.{All-contains_itself}
@@ -6,7 +6,7 @@ use Rattle.ats_network.specs.Network.{DeclaredNetwork}
 use Rattle.ats_network.specs.Senders.{sender_at}
 use Rattle.ats_certificate.specs.Certificate.{IsBefore}
 use Rattle.ats_certificate.specs.declared.row.Row.{Row}
-use Rattle.ats_group.specs.Judge.{ats_judge}
+use Rattle.ats_group.specs.Judge.{ats_judge, bucket_rule}
 use Rattle.ats_group_law.proofs.Regulator.{ats_is_regulator}
 use Rattle.ats_trace.specs.Journey.{Travel, IsOfStream}
 use Rattle.ats_trace.specs.Run.{IsLegal, releases_of}
@@ -14,7 +14,7 @@ use Rattle.ats_trace.specs.Stored.{no_travel, travel_at}
 use Rattle.ats_trace.specs.Talker.{talker_of, KeepsBuckets}
 use Rattle.ats_trace.proofs.ExactLinks.{links_are_exact}
 use Rattle.ats_soundness_law.specs.Sound.{IsServed, IsContained}
-use Rattle.ats_soundness_law.proofs.Soundness.{path_law, containment, sound_by_rules}
+use Rattle.ats_soundness_law.proofs.Soundness.{certificate_is_sound, sound_by_rules}
 use Rattle.ats_examples.specs.Networks.{line, fork, over_two, over_three, ranged_line}
 use Rattle.ats_examples.specs.Runs.{one_frame}
 use Rattle.ats_examples.specs.ChangedRuns.{sunk_late}
@@ -35,6 +35,7 @@ use Rattle.ats_examples.specs.PacedRuns.{arriving}
 use Rattle.ats_examples.proofs.PaceProofs.{arrivals_legal}
 use Rattle.ats_examples.proofs.NetworkProofs.{line_is, two_is, three_is, fork_is, ranged_is}
 use Rattle.ats_examples.proofs.RuleTest.{all_kept, holds_by}
+use Rattle.ats_examples.proofs.StationTest.{begin_at_stations, from_stations}
 
 two_certified : IsCertified over_two two_rows
 two_certified = record { rules = two_is; holds = holds_by over_two two_rows refl refl }
@@ -47,11 +48,12 @@ fork_certified = record { rules = fork_is; holds = holds_by fork fork_rows refl 
 
 -- by the path law
 pub served_in : (network : DeclaredNetwork) (rows : List Row) (run : List Travel) (j : Travel)
-    → IsCertified network rows → IsLegal network run → Contains run j → IsOfStream network j
-    → KeepsBuckets network (releases_of run) (talker_of network j.release.sender)
+    → IsCertified network rows → begin_at_stations network ≡ true → IsLegal network run → Contains run j
+    → IsOfStream network j → KeepsBuckets network (releases_of run) (talker_of network j.release.sender)
     → IsServed rows (sender_at network j.release.sender) j
-served_in network rows run j c legal there stream keeps =
-    path_law network rows c.rules c.holds run legal j there stream keeps
+served_in network rows run j c stations legal there stream keeps =
+    (from_stations bucket_rule ats_judge network rows stations
+    (certificate_is_sound network rows c.rules c.holds)).served run legal j there stream keeps
 
 two_kept : KeepsBuckets over_two (releases_of (one_over_two ∷ [])) 0
 two_kept = keeps_by over_two (releases_of (one_over_two ∷ [])) 0 refl refl
@@ -101,10 +103,12 @@ three_not_contained contained =
 
 -- by containment
 pub contained_in : (network : DeclaredNetwork) (rows : List Row) (run : List Travel) (j : Travel)
-    → IsCertified network rows
+    → IsCertified network rows → begin_at_stations network ≡ true
     → IsLegal network run → Contains run j → IsOfStream network j
     → IsContained rows (sender_at network j.release.sender) j
-contained_in network rows run j c legal there stream = containment network rows c.rules c.holds run legal j there stream
+contained_in network rows run j c stations legal there stream =
+    (from_stations bucket_rule ats_judge network rows stations
+    (certificate_is_sound network rows c.rules c.holds)).contained run legal j there stream
 
 pub bridged_sound : BridgedAreSound
 bridged_sound = record {
@@ -113,7 +117,7 @@ bridged_sound = record {
   one_over_two = record {
     legal = bridged_legal.one_over_two;
     keeps = two_kept;
-    served = served_in over_two two_rows (one_over_two ∷ []) one_over_two two_certified bridged_legal.one_over_two
+    served = served_in over_two two_rows (one_over_two ∷ []) one_over_two two_certified refl bridged_legal.one_over_two
         (0, lit< tt, refl) (lit< tt) two_kept;
     whole = refl;
   };
@@ -121,7 +125,7 @@ bridged_sound = record {
     legal = bridged_legal.one_over_three;
     keeps = three_kept;
     served = served_in over_three three_rows (one_over_three ∷ [])
-        one_over_three three_certified bridged_legal.one_over_three (0, lit< tt, refl) (lit< tt) three_kept;
+        one_over_three three_certified refl bridged_legal.one_over_three (0, lit< tt, refl) (lit< tt) three_kept;
     whole = refl;
   };
   second_over_two = record {
@@ -129,30 +133,30 @@ bridged_sound = record {
     not_kept = two_not_kept;
     not_served = two_not_served;
     contained = contained_in over_two two_rows (two_over_two 163868000) (travel_at (two_over_two 163868000) 1)
-        two_certified bridged_legal.two_over_two (1, lit< tt, refl) (lit< tt);
+        two_certified refl bridged_legal.two_over_two (1, lit< tt, refl) (lit< tt);
   };
   second_over_three = record {
     legal = bridged_legal.two_over_three;
     not_kept = three_not_kept;
     not_served = three_not_served;
     contained = contained_in over_three three_rows (two_over_three 177704000) (travel_at (two_over_three 177704000) 1)
-        three_certified bridged_legal.two_over_three (1, lit< tt, refl) (lit< tt);
+        three_certified refl bridged_legal.two_over_three (1, lit< tt, refl) (lit< tt);
   };
   eligible_later = record {
     not_contained = not_so_late;
     not_legal = λ legal. not_so_late
-        (contained_in over_two two_rows eligible_later (travel_at eligible_later 1) two_certified legal
+        (contained_in over_two two_rows eligible_later (travel_at eligible_later 1) two_certified refl legal
         (1, lit< tt, refl) (lit< tt));
   };
   later_over_two = record {
     not_contained = two_not_contained;
     not_legal = λ legal. two_not_contained (contained_in over_two two_rows (two_over_two 163868001)
-        (travel_at (two_over_two 163868001) 1) two_certified legal (1, lit< tt, refl) (lit< tt));
+        (travel_at (two_over_two 163868001) 1) two_certified refl legal (1, lit< tt, refl) (lit< tt));
   };
   later_over_three = record {
     not_contained = three_not_contained;
     not_legal = λ legal. three_not_contained (contained_in over_three three_rows (two_over_three 177704001)
-        (travel_at (two_over_three 177704001) 1) three_certified legal (1, lit< tt, refl) (lit< tt));
+        (travel_at (two_over_three 177704001) 1) three_certified refl legal (1, lit< tt, refl) (lit< tt));
   };
 }
 
@@ -177,10 +181,10 @@ babbler_contained = record {
   babbles = babbles;
   not_served = λ served. (served 0 (lit< tt)).prompt.1;
   keeps = beside_kept;
-  served = served_in fork fork_rows babbler (travel_at babbler 0) fork_certified babbler_legal (0, lit< tt, refl)
+  served = served_in fork fork_rows babbler (travel_at babbler 0) fork_certified refl babbler_legal (0, lit< tt, refl)
       (lit< tt) beside_kept;
   sum = refl;
-  contained = λ k d h. contained_in fork fork_rows babbler (get_or babbler k d) fork_certified babbler_legal
+  contained = λ k d h. contained_in fork fork_rows babbler (get_or babbler k d) fork_certified refl babbler_legal
       (All-contains_itself babbler k d h) (of_streams k d h);
 }
 

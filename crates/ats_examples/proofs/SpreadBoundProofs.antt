@@ -47,7 +47,7 @@ next_late served =
 
 -- where the residence is 1 ns shorter, the last frame is discarded
 short_unsound : ¬ IsSound (ranged 12463) line_rows
-short_unsound = unsound_by (ranged 12463) line_rows (last_is_late 14812000) 2
+short_unsound = unsound_by (ranged 12463) line_rows (last_is_late 14812000) 2 refl
     (legal_by (ranged 12463) (last_is_late 14812000) refl) (2, lit< tt, refl) (lit< tt)
     (keeps_by (ranged 12463) (releases_of (last_is_late 14812000)) (talker_of (ranged 12463) 0) refl refl)
     (λ served. (served 0 (lit< tt)).prompt.1)
@@ -58,17 +58,17 @@ paces_are_sound = record {
   latest = record {
     legal = arrivals_legal.latest;
     keeps = latest_kept;
-    served = served_in ranged_line line_rows (arriving 13836000) (travel_at (arriving 13836000) 0) certified
+    served = served_in ranged_line line_rows (arriving 13836000) (travel_at (arriving 13836000) 0) certified refl
         arrivals_legal.latest (0, lit< tt, refl) (lit< tt) latest_kept;
     whole = refl;
   };
   over_two = over_two;
   next = served_in over_two_ranged two_rows (arriving_next 26872000) (travel_at (arriving_next 26872000) 0) over_two
-      arrivals_legal.next_latest (0, lit< tt, refl) (lit< tt) next_kept;
+      refl arrivals_legal.next_latest (0, lit< tt, refl) (lit< tt) next_kept;
   next_late = next_late;
   legal = stays_legal;
   keeps = stays_kept;
-  served = served_in ranged_line line_rows last_stays (travel_at last_stays 2) certified stays_legal
+  served = served_in ranged_line line_rows last_stays (travel_at last_stays 2) certified refl stays_legal
       (2, lit< tt, refl) (lit< tt) stays_kept;
   spread_counts = breaks frames_may_stay (ranged 12463) line_rows (ranged_is 12463 refl refl)
       (rules.others_by frames_may_stay (ranged 12463) line_rows refl) (rules.rest_by (ranged 12463) line_rows refl)

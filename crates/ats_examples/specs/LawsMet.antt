@@ -3,15 +3,19 @@ use Rattle.ats_topology.specs.Port.{port_at}
 use Rattle.ats_network.specs.Bridges.{IsBridgeAt}
 use Rattle.ats_network.specs.Network.{IsNetwork}
 use Rattle.ats_topology.specs.Topology.{IsStationAt}
+use Rattle.ats_network.specs.Listeners.{end_of}
 use Rattle.ats_network.specs.Senders.{sender_at}
 use Rattle.ats_certificate.specs.Certificate.{Holds}
+use Rattle.ats_group.specs.Judge.{bucket_rule}
 use Rattle.ats_trace.specs.Journey.{Travel, IsOfStream}
 use Rattle.ats_trace.specs.Run.{IsLegal, releases_of}
 use Rattle.ats_trace.specs.Stored.{travel_at}
 use Rattle.ats_trace.specs.Talker.{talker_of, KeepsBuckets}
+use Rattle.ats_trace.specs.Ways.{route_to}
 use Rattle.ats_trace.specs.declared.journey.Ending.TheVariants.{Sink}
-use Rattle.ats_soundness_law.specs.Sound.{IsPromptIfEligible, IsServed, bounds_of}
+use Rattle.ats_soundness_law.specs.Sound.{BridgesKeep, IsPromptIfEligible, IsServed, bounds_of}
 use Rattle.ats_examples.specs.Networks.{line}
+use Rattle.ats_examples.specs.OwnFrames.{own, own_frames, own_rows}
 use Rattle.ats_examples.specs.Runs.{one_frame, regulated}
 use Rattle.ats_examples.specs.Rows.{line_rows}
 
@@ -52,3 +56,17 @@ pub record LawsAreMet : Type 0 where
   pub not_served : ¬ IsServed line_rows (sender_at line 0) held_back
   pub not_prompt : ¬ IsPromptIfEligible (bounds_of line_rows (sender_at line 0)) (sender_at line 0).ports held_back.hops
       held_back.ending
+
+-- so it is over a line whose bridge has a stream of its own, and takes one: the frame of the stream from end to end has
+-- a way that the bridge is asked for, which keeps its buckets though it sends a frame itself
+pub record BridgesAreMet : Type 0 where
+  pub network : IsNetwork own
+  pub holds : Holds own own_rows
+  pub legal : IsLegal own own_frames
+  pub among : Contains own_frames (travel_at own_frames 2)
+  pub of_stream : IsOfStream own (travel_at own_frames 2)
+  pub keeps : KeepsBuckets own (releases_of own_frames) (talker_of own 0)
+  pub bridge : IsBridgeAt own.topology (port_at own.topology.ports 2).from
+  pub begins_there : talker_of own 1 ≡ (port_at own.topology.ports 2).from
+  pub ends_there : end_of own.topology.ports (route_to (sender_at own 2) 0) ≡ (port_at own.topology.ports 2).from
+  pub bridges_keep : BridgesKeep bucket_rule own (releases_of own_frames) (route_to (sender_at own 0) 0)

@@ -19,4 +19,5 @@ pub mod RuleBreaks
 pub mod SoundRuns
 pub mod ClassBounds
 pub mod SpreadBounds
+pub mod OwnFrames
 pub mod Groups

@@ -2,7 +2,9 @@
 
 ghost use Rattle.ats_examples.specs.ClassBounds.{ClassesAreSound};
 ghost use Rattle.ats_examples.specs.Judges.{RegulatorCounts};
-ghost use Rattle.ats_examples.specs.LawsMet.{LawsAreMet};
+ghost use Rattle.ats_examples.specs.LawsMet.{BridgesAreMet, LawsAreMet};
+ghost use Rattle.ats_examples.specs.OwnFrames.{EndsMayBabble, OwnAreContained, OwnBabblerCounts, OwnDelayCounts};
+ghost use Rattle.ats_examples.specs.OwnFrames.{OwnFramesAreServed};
 ghost use Rattle.ats_examples.specs.RuleBreaks.{EachRuleCounts};
 ghost use Rattle.ats_examples.specs.SoundRuns.{BabblerIsContained, BridgedAreSound, ExactExamples, ExactnessCounts};
 ghost use Rattle.ats_examples.specs.SoundRuns.{OrderDoesNotCount};
@@ -13,8 +15,11 @@ ghost use Rattle.ats_examples.specs.SpreadBounds.{LinkRuleCounts, PacesAreSound}
 /// And a legal run of the same network whose talker does not keep its bucket: of it the path law
 /// says nothing, and containment does. There a frame is later than its bounds say, so that a
 /// talker's buckets count, and containment begins behind the first bridge.
+///
+/// So can they where routes begin and end at the bridge, and this is asked to keep its buckets.
 pub fn laws_are_met()
-    ensures { LawsAreMet }
+    ensures line { LawsAreMet }
+    ensures bridges { BridgesAreMet }
 {}
 
 /// None of the ten rules can be left out: for each there is a network and a certificate that breaks
@@ -59,6 +64,18 @@ pub fn classes_are_sound()
 /// 1 ns shorter breaks this rule alone, and the bounds are not sound.
 pub fn paces_are_sound()
     ensures { PacesAreSound }
+{}
+
+/// Frames that a bridge sends itself, and frames that end at one: where all nodes keep their buckets, each is served.
+/// That the bridge keeps its own counts: where it does not, a frame whose talker does comes later than the sum of its
+/// bounds, or is discarded. And it counts on the way alone: frames that end at a bridge are served whatever it sends,
+/// and those of a bridge that babbles are contained from the next one on.
+pub fn own_frames_count()
+    ensures met { OwnFramesAreServed }
+    ensures babbler { OwnBabblerCounts }
+    ensures delay { OwnDelayCounts }
+    ensures ends { EndsMayBabble }
+    ensures contained { OwnAreContained }
 {}
 
 /// None of what the link rule asks can be left out: a frame that arrives a picosecond later than it may, or earlier, or

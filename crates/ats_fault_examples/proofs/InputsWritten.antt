@@ -40,7 +40,7 @@ schedule_is : releases_in way (codes "d.csv") (codes "at_ps,sender,octets\n1001,
 unfolding digits releases_in next_record records_from strip_bom records_of same_fields release_header release_after
 schedule_is = refl
 
-requests_are : requests_in way.topology (codes "e.txt") (codes "withdraw w\n\nwithdraw\n")
+requests_are : requests_in way (codes "e.txt") (codes "withdraw w\n\nwithdraw\n")
     ≡ Err (told (codes "input e.txt bad-line 3\n"))
 unfolding digits requests_in
 requests_are = refl

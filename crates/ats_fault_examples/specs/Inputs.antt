@@ -46,7 +46,7 @@ pub record InputsAreWritten : Type 0 where
       ≡ Err (told (codes "input c.csv bad-row 1\n"))
   pub schedule : releases_in way (codes "d.csv") (codes "at_ps,sender,octets\n1001,u,64\n2002,w,64\n")
       ≡ Err (told (codes "input d.csv unknown-name 3\n"))
-  pub requests : requests_in way.topology (codes "e.txt") (codes "withdraw w\n\nwithdraw\n")
+  pub requests : requests_in way (codes "e.txt") (codes "withdraw w\n\nwithdraw\n")
       ≡ Err (told (codes "input e.txt bad-line 3\n"))
   pub capture : records_in (codes "f.pcap") (low_header ++ 0x04 ∷ []) ≡ Err (told (codes "input f.pcap cut-short 1\n"))
   pub traffic : traffic_in (one_stream 1000 672 64) 0 (codes "g.pcap") far_apart

@@ -23,7 +23,7 @@ over_ports ports rate burst least most deadline =
 -- the least and the greatest stream, in classes 1 and 7, and numbers beside each of theirs
 pub record StreamLimits : Type 0 where
   pub least : stream_fault (1 ∷ []) (over_ports 1 1 672 64 64 1) ≡ None
-  pub greatest : stream_fault (7 ∷ []) (over_ports 16 100000000000 1000000000 64 2000 1000000000) ≡ None
+  pub greatest : stream_fault (7 ∷ []) (over_ports 64 100000000000 1000000000 64 2000 1000000000) ≡ None
   pub each_class : stream_fault (1 ∷ 7 ∷ 1 ∷ []) (over_ports 3 1 16160 2000 2000 1) ≡ None
   pub class_below : stream_fault (0 ∷ []) (over_ports 1 1 672 64 64 1) ≡ Some rule.BadClass
   pub class_over : stream_fault (8 ∷ []) (over_ports 1 1 672 64 64 1) ≡ Some rule.BadClass
@@ -36,18 +36,18 @@ pub record StreamLimits : Type 0 where
   pub burst_below : stream_fault (1 ∷ []) (over_ports 1 1 671 64 64 1) ≡ Some rule.BurstBelowFrame
   pub burst_over : stream_fault (1 ∷ []) (over_ports 1 1 1000000001 64 64 1) ≡ Some rule.Limit
   pub no_port : stream_fault (1 ∷ []) (over_ports 0 1 672 64 64 1) ≡ Some rule.Limit
-  pub many_ports : stream_fault (1 ∷ []) (over_ports 17 1 672 64 64 1) ≡ Some rule.Limit
+  pub many_ports : stream_fault (1 ∷ []) (over_ports 65 1 672 64 64 1) ≡ Some rule.Limit
   pub deadline_below : stream_fault (1 ∷ []) (over_ports 1 1 672 64 64 0) ≡ Some rule.Limit
   pub deadline_over : stream_fault (1 ∷ []) (over_ports 1 1 672 64 64 1000000001) ≡ Some rule.Limit
 
 -- and of flows
 pub record FlowLimits : Type 0 where
   pub least : flow_fault (declared_flow (codes "i") (replicate 1 0) 64) ≡ None
-  pub greatest : flow_fault (declared_flow (codes "i") (replicate 16 0) 2000) ≡ None
+  pub greatest : flow_fault (declared_flow (codes "i") (replicate 64 0) 2000) ≡ None
   pub size_below : flow_fault (declared_flow (codes "i") (replicate 1 0) 63) ≡ Some rule.BadSizes
   pub size_over : flow_fault (declared_flow (codes "i") (replicate 1 0) 2001) ≡ Some rule.BadSizes
   pub no_port : flow_fault (declared_flow (codes "i") [] 64) ≡ Some rule.Limit
-  pub many_ports : flow_fault (declared_flow (codes "i") (replicate 17 0) 64) ≡ Some rule.Limit
+  pub many_ports : flow_fault (declared_flow (codes "i") (replicate 65 0) 64) ≡ Some rule.Limit
 
 -- a station
 abbrev pub one_station : Node

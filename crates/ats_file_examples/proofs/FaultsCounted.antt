@@ -3,6 +3,7 @@ use Rattle.std.specs.Prelude.{codes}
 use Rattle.ats_num.specs.Failure.{◌>>=◌}
 use Rattle.ats_network.specs.Network.{DeclaredNetwork}
 use Rattle.ats_topology.specs.declared.fault.TopologyFault.TheVariants.{LinkTwice, NodeTwice}
+use Rattle.ats_network_table.specs.declared.format.Format.TheVariants.{Two}
 use Rattle.ats_network_toml.specs.Document as file
 use Rattle.ats_network_toml.specs.Document.{ends, path}
 use Rattle.ats_network_file.specs.Reading.{network_in, network_of}
@@ -16,6 +17,7 @@ use Rattle.ats_file_examples.specs.NetworkText.{links_text, network_text, nodes_
 use Rattle.ats_file_examples.proofs.NetworkRead.{behind_flows, behind_streams}
 use Rattle.ats_file_examples.proofs.Parsing.{parsed}
 use Rattle.ats_file_examples.proofs.Senders.{crowd_to}
+use Rattle.ats_file_examples.proofs.Steps.{at_flow, at_stream}
 use Rattle.ats_file_examples.proofs.Steps.{document_is, legs_is, network_is, none_more, one_leg, stream_is}
 
 -- Tables that do not fit to many others: their document by computation, and then their senders step by step.
@@ -23,20 +25,26 @@ use Rattle.ats_file_examples.proofs.Steps.{document_is, legs_is, network_is, non
 -- a fifth station, and a seventh link
 abbrev with_station : file.DeclaredDocument
 with_station = record {
+  format = Two;
   stations = document.stations ++ record { name = codes "s3" } ∷ [];
   bridges = document.bridges;
   links = [];
   streams = [];
+  link_locals = [];
   flows = [];
+  link_local_flows = [];
 }
 
 abbrev with_link : file.DeclaredDocument
 with_link = record {
+  format = Two;
   stations = document.stations;
   bridges = document.bridges;
   links = document.links ++ link (codes "b3") (codes "b2") 10 1 ∷ [];
   streams = [];
+  link_locals = [];
   flows = [];
+  link_local_flows = [];
 }
 
 abbrev station_text : List ℕ
@@ -97,20 +105,23 @@ identified_text =
 
 -- it is not added
 not_added : (entry : file.DeclaredStream) (why : NetFault)
-    → stream_added (crowd_to 4 0) 5 entry ≡ Err why → network_in (document_with (streams ++ entry ∷ []) []) ≡ Err why
+    → stream_added Two (crowd_to 4 0) (at_stream 5) entry ≡ Err why
+    → network_in (document_with (streams ++ entry ∷ []) []) ≡ Err why
 not_added entry why is =
     behind_streams (entry ∷ []) []
-    ∙ ap (λ (due : Result DeclaredNetwork NetFault). due >>= λ streamed. all_added flow_added streamed 1 [])
-    (none_more stream_added (crowd_to 4 0) 5 entry [] why is)
+    ∙ ap (λ (due : Result DeclaredNetwork NetFault). due >>= λ streamed. all_added (flow_added Two) streamed [])
+    (none_more (stream_added Two) (crowd_to 4 0) (at_stream 5) entry [] why is)
 
-fifth_not_added : stream_added (crowd_to 4 0) 5 fifth ≡ Err (fault.SenderTwice Stream 5)
-fifth_not_added = stream_is (crowd_to 4 0) 5 fifth (one_leg (0 ∷ 6 ∷ 3 ∷ [])) (Err (fault.SenderTwice Stream 5))
-    (legs_is crowd.topology 5 fifth.routes (0 ∷ 6 ∷ 3 ∷ []) refl
+fifth_not_added : stream_added Two (crowd_to 4 0) (at_stream 5) fifth ≡ Err (fault.SenderTwice Stream 5)
+fifth_not_added = stream_is Two (crowd_to 4 0) (at_stream 5) fifth (one_leg (0 ∷ 6 ∷ 3 ∷ []))
+    (Err (fault.SenderTwice Stream 5))
+    (legs_is Two crowd.topology (at_stream 5) fifth.routes (0 ∷ 6 ∷ 3 ∷ []) refl refl
     (valid_from_by crowd.topology 0 (0 ∷ 6 ∷ 3 ∷ []) refl)) refl
 
-identified_not_added : stream_added (crowd_to 4 0) 5 identified ≡ Err (fault.IdentityTwice 5)
-identified_not_added = stream_is (crowd_to 4 0) 5 identified (one_leg (0 ∷ 6 ∷ 3 ∷ [])) (Err (fault.IdentityTwice 5))
-    (legs_is crowd.topology 5 identified.routes (0 ∷ 6 ∷ 3 ∷ []) refl
+identified_not_added : stream_added Two (crowd_to 4 0) (at_stream 5) identified ≡ Err (fault.IdentityTwice 5)
+identified_not_added = stream_is Two (crowd_to 4 0) (at_stream 5) identified (one_leg (0 ∷ 6 ∷ 3 ∷ []))
+    (Err (fault.IdentityTwice 5))
+    (legs_is Two crowd.topology (at_stream 5) identified.routes (0 ∷ 6 ∷ 3 ∷ []) refl refl
     (valid_from_by crowd.topology 0 (0 ∷ 6 ∷ 3 ∷ []) refl)) refl
 
 stream_not_read : network_of fifth_text ≡ Err (fault.SenderTwice Stream 5)
@@ -138,7 +149,7 @@ unfolding parsed
 flow_not_read =
     network_is fourth_text (document_with streams (flows ++ fourth ∷ [])) (Err (fault.BadPath Flow 4))
     (document_is fourth_text (Ok (document_with streams (flows ++ fourth ∷ []))) refl refl)
-    (behind_flows (fourth ∷ []) ∙ none_more flow_added crowd 4 fourth [] (fault.BadPath Flow 4) refl)
+    (behind_flows (fourth ∷ []) ∙ none_more (flow_added Two) crowd (at_flow 4) fourth [] (fault.BadPath Flow 4) refl)
 
 pub faults_are_counted : FaultsAreCounted
 faults_are_counted = record {

@@ -3,10 +3,11 @@ use Rattle.std.specs.Prelude.{codes}
 use Rattle.std.specs.List.{All}
 use Rattle.std.proofs.lemmas.List.Elements.{All-cons, All-nil}
 use Rattle.ats_num.specs.Failure.{◌>>=◌, unless}
-use Rattle.ats_network.specs.Network.{DeclaredNetwork, declared_network}
+use Rattle.ats_network.specs.Network.{DeclaredNetwork, long_network}
 use Rattle.ats_network.specs.Path.{IsValidPath}
 use Rattle.ats_network.specs.Pushes.{stream_push_fault, with_stream}
 use Rattle.ats_route_tree.specs.Legs.{DeclaredLegs}
+use Rattle.ats_network_table.specs.declared.format.Format.TheVariants.{Three}
 use Rattle.ats_network_toml.specs.Document as file
 use Rattle.ats_network_toml.specs.Reading.{document_of}
 use Rattle.ats_network_file.specs.Reading.{network_in}
@@ -22,7 +23,7 @@ use Rattle.ats_examples.specs.Networks.{fork}
 use Rattle.ats_file_examples.specs.Forked.{ForkIsRead, classes_text, document_with, ends_routes}
 use Rattle.ats_file_examples.specs.Forked.{ends_text, forked, forked_text, paths_routes, paths_text}
 use Rattle.ats_file_examples.proofs.Parsing.{parsed}
-use Rattle.ats_file_examples.proofs.Steps.{document_is, network_is, one_more, stream_is}
+use Rattle.ats_file_examples.proofs.Steps.{at_stream, document_is, network_is, one_more, stream_is}
 
 -- A stream with two listeners: its tables by computation, and its legs by a test of the ports of its routes.
 
@@ -44,31 +45,32 @@ legs = record { ports = 0 ∷ 2 ∷ 5 ∷ []; branches = record { first = 2; leg
 
 legs_of : (routes : List file.DeclaredRoute)
     → ports_of_each fork.topology routes ≡ Some ((0 ∷ 2 ∷ []) ∷ (0 ∷ 5 ∷ []) ∷ [])
-    → legs_in fork.topology 1 routes ≡ Ok legs
+    → legs_in Three fork.topology (at_stream 1) routes ≡ Ok legs
 legs_of routes ports =
-    legs_are fork.topology 1 routes ((0 ∷ 2 ∷ []) ∷ (0 ∷ 5 ∷ []) ∷ []) legs ports
-    (both (0 ∷ 2 ∷ []) (0 ∷ 5 ∷ []) to_second to_third) refl
+    legs_are Three fork.topology (at_stream 1) routes ((0 ∷ 2 ∷ []) ∷ (0 ∷ 5 ∷ []) ∷ []) legs ports
+    (both (0 ∷ 2 ∷ []) (0 ∷ 5 ∷ []) to_second to_third) refl refl
 
 -- the network without the stream
 abbrev none_yet : DeclaredNetwork
-none_yet = declared_network fork.topology [] []
+none_yet = long_network fork.topology [] []
 
 -- what becomes of the stream of an entry over these legs
 abbrev over : file.DeclaredStream → Result DeclaredNetwork NetFault
 over entry =
-    stream_made 1 entry (stream_over legs entry)
-    >>= λ stream. unless (refusal_of Stream 1) (stream_push_fault none_yet stream) (with_stream none_yet stream)
+    stream_made none_yet.most_ports (at_stream 1) entry (stream_over legs entry)
+    >>= λ stream. unless (refusal_of (at_stream 1)) (stream_push_fault none_yet stream) (with_stream none_yet stream)
 
 -- the network of tables whose one stream comes to this
 stream_comes : (entry : file.DeclaredStream) (due : Result DeclaredNetwork NetFault)
-    → stream_added none_yet 1 entry ≡ due
-    → (all_added stream_added none_yet 1 (entry ∷ []) >>= λ streamed. all_added flow_added streamed 1 []) ≡ due
+    → stream_added Three none_yet (at_stream 1) entry ≡ due
+    → (all_added (stream_added Three) none_yet ((at_stream 1, entry) ∷ [])
+    >>= λ streamed. all_added (flow_added Three) streamed []) ≡ due
 stream_comes entry (Ok next) is =
-    ap (λ (s : Result DeclaredNetwork NetFault). s >>= λ streamed. all_added flow_added streamed 1 [])
-    (one_more stream_added none_yet next 1 entry [] is)
+    ap (λ (s : Result DeclaredNetwork NetFault). s >>= λ streamed. all_added (flow_added Three) streamed [])
+    (one_more (stream_added Three) none_yet next (at_stream 1) entry [] is)
 stream_comes entry (Err why) is =
-    ap (λ (s : Result DeclaredNetwork NetFault). (s >>= λ next. all_added stream_added next 2 [])
-    >>= λ streamed. all_added flow_added streamed 1 []) is
+    ap (λ (s : Result DeclaredNetwork NetFault). (s >>= λ next. all_added (stream_added Three) next [])
+    >>= λ streamed. all_added (flow_added Three) streamed []) is
 
 -- the entry of its stream
 abbrev entry : List file.DeclaredRoute → List ℕ → file.DeclaredStream
@@ -90,7 +92,7 @@ added : (routes : List file.DeclaredRoute) (given classes : List ℕ)
     → network_in (document_with routes given) ≡ Ok (forked classes)
 added routes given classes ports made =
     stream_comes (entry routes given) (Ok (forked classes))
-    (stream_is none_yet 1 (entry routes given) legs (Ok (forked classes)) (legs_of routes ports) made)
+    (stream_is Three none_yet (at_stream 1) (entry routes given) legs (Ok (forked classes)) (legs_of routes ports) made)
 
 -- the tables of the four texts
 tables_are : document_of (forked_text ends_text classes_text) ≡ Ok (document_with ends_routes (6 ∷ 5 ∷ 4 ∷ []))
@@ -117,15 +119,16 @@ twice_is : document_of twice_text ≡ Ok (document_with twice (6 ∷ 5 ∷ 4 ∷
 unfolding parsed
 twice_is = document_is twice_text (Ok (document_with twice (6 ∷ 5 ∷ 4 ∷ []))) refl refl
 
-no_legs : legs_in fork.topology 1 twice ≡ Err (fault.BadPath Stream 1)
-no_legs = no_tree fork.topology 1 twice ((0 ∷ 2 ∷ []) ∷ (0 ∷ 2 ∷ []) ∷ []) refl
+no_legs : legs_in Three fork.topology (at_stream 1) twice ≡ Err (fault.BadPath Stream 1)
+no_legs = no_tree Three fork.topology (at_stream 1) twice ((0 ∷ 2 ∷ []) ∷ (0 ∷ 2 ∷ []) ∷ []) refl
     (both (0 ∷ 2 ∷ []) (0 ∷ 2 ∷ []) to_second to_second) refl
 
 refused : network_in (document_with twice (6 ∷ 5 ∷ 4 ∷ [])) ≡ Err (fault.BadPath Stream 1)
 refused = stream_comes (entry twice (6 ∷ 5 ∷ 4 ∷ [])) (Err (fault.BadPath Stream 1))
-    (ap (λ (r : Result DeclaredLegs NetFault). r >>= λ found. stream_made 1 (entry twice (6 ∷ 5 ∷ 4 ∷ []))
+    (ap (λ (r : Result DeclaredLegs NetFault). r >>= λ found. stream_made 64 (at_stream 1)
+    (entry twice (6 ∷ 5 ∷ 4 ∷ []))
     (stream_over found (entry twice (6 ∷ 5 ∷ 4 ∷ [])))
-    >>= λ stream. unless (refusal_of Stream 1) (stream_push_fault none_yet stream) (with_stream none_yet stream))
+    >>= λ stream. unless (refusal_of (at_stream 1)) (stream_push_fault none_yet stream) (with_stream none_yet stream))
     no_legs)
 
 pub fork_is_read : ForkIsRead

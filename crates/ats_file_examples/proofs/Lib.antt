@@ -12,4 +12,6 @@ pub mod CaptureRead
 pub mod CrowdWritten
 pub mod FlowsWritten
 pub mod WaitsWritten
+pub mod LongLinesRead
 pub mod PremisesMet
+pub mod PortsRead

@@ -9,7 +9,9 @@ use Rattle.std.proofs.lemmas.List.Kept.{AllPairs-cons}
 use Rattle.std.proofs.lemmas.Bool.Decides.{nat_tests}
 use Rattle.toml.specs.Data.{Data, Members, as_array, array, integer, item, member, no_items, no_members, string, table}
 use Rattle.ats_num.specs.Name.{is_name}
-use Rattle.ats_topology.specs.Topology.{ports_of}
+use Rattle.ats_num.specs.Places.{place_of}
+use Rattle.ats_topology.specs.Node.{names_of}
+use Rattle.ats_topology.specs.Topology.{DeclaredTopology, IsStationAt, ports_of}
 use Rattle.ats_topology.specs.declared.node.Node.{Node}
 use Rattle.ats_network_table.specs.declared.fault.DocumentFault.{DocumentFault}
 use Rattle.ats_network_table.specs.declared.format.Format.{Format}
@@ -19,11 +21,12 @@ use Rattle.ats_network_toml.specs.Reading.{format_in, tree_of}
 use Rattle.ats_network_file.specs.Routes.{path_of}
 use Rattle.ats_network_file_law.specs.Formats.{AreOfOneMeaning, SaysNothingNew}
 use Rattle.ats_network_file_law.specs.OneListener.{AreWrittenByPath, IsWrittenByPath}
+use Rattle.ats_network_file_law.specs.Several.{IsStationNamed}
 use Rattle.ats_certificate.specs.Certificate.{IsBefore}
 use Rattle.ats_certificate.specs.Form.{AreRows, IsRow}
 use Rattle.ats_certificate.specs.declared.row.Row.{Row}
 use Rattle.ats_examples.proofs.NetworkProofs.{fork_is}
-use Rattle.ats_examples.proofs.NetworkTest.{valid_from_by}
+use Rattle.ats_examples.proofs.NetworkTest.{station_by, valid_from_by}
 use Rattle.ats_examples.proofs.RuleTest.{before_by, is_before}
 use Rattle.ats_examples.proofs.Tests.{all_by, pairs_by}
 use Rattle.ats_examples.specs.Networks.{fork}
@@ -88,6 +91,8 @@ one_meaning = record {
   format = refl;
   nothing_new = All-cons SaysNothingNew by_nodes (by_ends ∷ []) nodes_say
       (All-cons SaysNothingNew by_ends [] ends_say (All-nil SaysNothingNew));
+  no_streams_for_ports = refl;
+  no_flows_for_ports = refl;
 }
 
 -- of each stream its route and the path that it has
@@ -196,12 +201,30 @@ two_paths a b first second is are =
     ∙ ap (λ (o : Option (List ℕ)). option_map (λ paths. first ∷ paths)
     (option_and_then (λ path. option_map (λ paths. path ∷ paths) (Some [])) o)) are
 
+-- the only node with a name is a station
+station_named : (topology : DeclaredTopology) (name : List ℕ) (n : ℕ) → place_of name (names_of topology.nodes) ≡ Some n
+    → IsStationAt topology n → IsStationNamed topology name
+station_named topology name n is station m found =
+    let same : n ≡ m = cc (sym is ∙ found) in
+    subst (IsStationAt topology) same station
+
+three_stations : All (IsStationNamed fork.topology) (codes "s1" ∷ codes "s2" ∷ codes "s3" ∷ [])
+three_stations =
+    let P : List ℕ → Type 0 = IsStationNamed fork.topology in
+    All-cons P (codes "s1") (codes "s2" ∷ codes "s3" ∷ [])
+    (station_named fork.topology (codes "s1") 0 refl (station_by fork.topology 0 refl))
+    (All-cons P (codes "s2") (codes "s3" ∷ [])
+    (station_named fork.topology (codes "s2") 1 refl (station_by fork.topology 1 refl))
+    (All-cons P (codes "s3") []
+    (station_named fork.topology (codes "s3") 2 refl (station_by fork.topology 2 refl)) (All-nil P)))
+
 ends_have_paths : EndsHavePaths
 ends_have_paths = record {
   topology = fork_is.topology;
   apart = AllPairs-cons Differ (codes "s2") (codes "s3" ∷ [])
       (All-cons (Differ (codes "s2")) (codes "s3") [] two_names (All-nil (Differ (codes "s2"))))
       (AllPairs-cons Differ (codes "s3") [] (All-nil (Differ (codes "s3"))) none_differ);
+  stations = three_stations;
   paths = two_paths (path_of fork.topology (file.ends (codes "s1") (codes "s2")))
       (path_of fork.topology (file.ends (codes "s1") (codes "s3"))) (0 ∷ 2 ∷ []) (0 ∷ 5 ∷ [])
       (path_of_is fork.topology (file.ends (codes "s1") (codes "s2")) (0 ∷ 2 ∷ []) refl

@@ -1,6 +1,7 @@
 use Rattle.std.specs.Prelude.{◌≡◌, ℕ, List, [], ◌∷◌, ◌++◌, codes, Some, Ok, Err}
 use Rattle.ats_streams.specs.Stream.{branching_stream}
-use Rattle.ats_network.specs.Network.{DeclaredNetwork, declared_network}
+use Rattle.ats_network.specs.Network.{DeclaredNetwork, long_network}
+use Rattle.ats_network_table.specs.declared.format.Format.TheVariants.{Three}
 use Rattle.ats_network_toml.specs.Document.{DeclaredDocument, DeclaredRoute, ends, path}
 use Rattle.ats_network_toml.specs.Reading.{document_of}
 use Rattle.ats_network_file.specs.Reading.{network_of}
@@ -34,6 +35,7 @@ classes_text = codes "classes = [6, 5, 4]\n"
 -- what its tables declare
 abbrev pub document_with : List DeclaredRoute → List ℕ → DeclaredDocument
 document_with routes classes = record {
+  format = Three;
   stations = record { name = codes "s1" } ∷ record { name = codes "s2" } ∷ record { name = codes "s3" } ∷ [];
   bridges = record { name = codes "b1"; processing_min_ns = 1000; processing_max_ns = 1000; residence_ns = 11664 } ∷ [];
   links =
@@ -52,7 +54,9 @@ document_with routes classes = record {
         deadline_ns = 26672;
         identity = Some (0x01005E000001, 5);
       } ∷ [];
+  link_locals = [];
   flows = [];
+  link_local_flows = [];
 }
 
 abbrev pub ends_routes : List DeclaredRoute
@@ -64,7 +68,7 @@ paths_routes =
 
 -- the network: the port of the branch is behind those of the trunk, and the branch begins behind the first of these
 abbrev pub forked : List ℕ → DeclaredNetwork
-forked classes = declared_network fork.topology
+forked classes = long_network fork.topology
     (branching_stream (codes "a") (0 ∷ 2 ∷ 5 ∷ []) (record { first = 2; leg = 0; hop = 1 } ∷ []) classes 100000000 12336
     64 1522 26672 (Some (0x01005E000001, 5)) ∷ []) []
 

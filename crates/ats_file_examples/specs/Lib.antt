@@ -8,4 +8,6 @@ pub mod Shown
 pub mod Alone
 pub mod Waiting
 pub mod Forked
+pub mod LongLines
 pub mod Premises
+pub mod AtPorts

@@ -33,9 +33,9 @@ requests =
 
 -- they are read so; of a line behind them the number is told
 pub record RequestsAreCounted : Type 0 where
-  pub read : requests_of crowd.topology requests_text ≡ Ok requests
-  pub no_name : requests_of crowd.topology (requests_text ++ codes "withdraw\n") ≡ Err (request.BadLine 7)
-  pub no_node : requests_of crowd.topology
+  pub read : requests_of crowd requests_text ≡ Ok requests
+  pub no_name : requests_of crowd (requests_text ++ codes "withdraw\n") ≡ Err (request.BadLine 7)
+  pub no_node : requests_of crowd
       (requests_text ++ codes "admit e s1 s5 lowest 3000005 12005 75 1105 500005\n") ≡ Err (request.UnknownNode 7)
 
 abbrev pub shape_text : List ℕ

@@ -10,6 +10,7 @@ use Rattle.ats_network.specs.Network.{DeclaredNetwork, declared_network}
 use Rattle.ats_network_table.specs.declared.fault.DocumentFault.TheVariants as form
 use Rattle.ats_network_table.specs.declared.key.Key.TheVariants as key
 use Rattle.ats_network_table.specs.declared.table.Table.TheVariants as table
+use Rattle.ats_network_table.specs.declared.format.Format.TheVariants.{Two}
 use Rattle.ats_network_toml.specs.Document.{DeclaredDocument, DeclaredFlow, DeclaredStream, ends, path}
 use Rattle.ats_network_toml.specs.Reading.{document_of}
 use Rattle.ats_network_toml.specs.declared.entries.BridgeEntry.{BridgeEntry}
@@ -105,6 +106,7 @@ flows = f ∷ g ∷ h ∷ []
 -- each table in its order, with these senders
 abbrev pub document_with : List DeclaredStream → List DeclaredFlow → DeclaredDocument
 document_with streams flows = record {
+  format = Two;
   stations =
       record { name = codes "s1" } ∷ record { name = codes "s2" } ∷ record { name = codes "s3" }
       ∷ record { name = codes "s4" } ∷ [];
@@ -116,7 +118,9 @@ document_with streams flows = record {
       ∷ link (codes "b3") (codes "s3") 10000 43 ∷ link (codes "b1") (codes "b2") 2500 44
       ∷ link (codes "b2") (codes "b3") 5000 45 ∷ link (codes "s4") (codes "b1") 25000 46 ∷ [];
   streams = streams;
+  link_locals = [];
   flows = flows;
+  link_local_flows = [];
 }
 
 abbrev pub document : DeclaredDocument

@@ -11,6 +11,7 @@ use Rattle.ats_network_file.specs.Reading.{IsBeforeFormat3}
 use Rattle.ats_network_file.specs.Routes.{paths_of}
 use Rattle.ats_network_file_law.specs.Formats.{AreOfOneMeaning}
 use Rattle.ats_network_file_law.specs.OneListener.{AreWrittenByPath}
+use Rattle.ats_network_file_law.specs.Several.{IsStationNamed}
 use Rattle.ats_port_names.specs.Laws.{AreSound}
 use Rattle.ats_certificate.specs.Form.{AreRows}
 use Rattle.ats_certificate.specs.declared.row.Row.{Row}
@@ -54,6 +55,7 @@ document_by_paths = document_with
 pub record EndsHavePaths : Type 0 where
   pub topology : IsTopology fork.topology
   pub apart : AllPairs (λ a b. a ≢ b) (codes "s2" ∷ codes "s3" ∷ [])
+  pub stations : All (IsStationNamed fork.topology) (codes "s1" ∷ codes "s2" ∷ codes "s3" ∷ [])
   pub paths : paths_of fork.topology (map (ends (codes "s1")) (codes "s2" ∷ codes "s3" ∷ []))
       ≡ Some ((0 ∷ 2 ∷ []) ∷ (0 ∷ 5 ∷ []) ∷ [])
 

@@ -2,6 +2,7 @@ use Rattle.std.specs.Prelude.{◌≡◌, ℕ, List, [], ◌∷◌, ◌++◌, cod
 use Rattle.ats_network_table.specs.declared.fault.DocumentFault.TheVariants.{Missing, WrongKind}
 use Rattle.ats_network_table.specs.declared.key.Key.TheVariants as key
 use Rattle.ats_network_table.specs.declared.table.Table.TheVariants.{Flow, Stream}
+use Rattle.ats_network_table.specs.declared.format.Format.TheVariants.{Two}
 use Rattle.ats_network_toml.specs.Document.{DeclaredDocument, ends}
 use Rattle.ats_network_toml.specs.Reading.{document_of}
 
@@ -29,6 +30,7 @@ identity_text vlan =
 -- what the file then declares
 abbrev pub identified : ℕ → DeclaredDocument
 identified vlan = record {
+  format = Two;
   stations = [];
   bridges = [];
   links = [];
@@ -44,7 +46,9 @@ identified vlan = record {
         deadline_ns = 1000000000;
         identity = Some (0xFFFFFFFFFFFF, vlan);
       } ∷ [];
+  link_locals = [];
   flows = [];
+  link_local_flows = [];
 }
 
 -- a VLAN asks for an address, and an address for a VLAN; a stream has a class or classes, a path or both its ends;

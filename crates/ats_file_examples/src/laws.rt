@@ -1,9 +1,11 @@
 //! Worked files with many entries: what they declare, in which entry a fault is, and what is printed of them.
 
 ghost use Rattle.ats_file_examples.specs.Alone.{FlowsAreWritten};
+ghost use Rattle.ats_file_examples.specs.AtPorts.{PortsAreRead};
 ghost use Rattle.ats_file_examples.specs.Captured.{CaptureIsCounted};
 ghost use Rattle.ats_file_examples.specs.Forked.{ForkIsRead};
 ghost use Rattle.ats_file_examples.specs.Lines.{RequestsAreCounted, ShapeIsCounted};
+ghost use Rattle.ats_file_examples.specs.LongLines.{LinesAreLimited};
 ghost use Rattle.ats_file_examples.specs.Network.{FaultsAreCounted, FormIsCounted, NetworkIsRead};
 ghost use Rattle.ats_file_examples.specs.Premises.{PremisesAreMet};
 ghost use Rattle.ats_file_examples.specs.Records.{ReleasesAreRead, RowsAreRead};
@@ -21,6 +23,18 @@ pub fn network_is_read()
 /// that it declares.
 pub fn fork_is_read()
     ensures { ForkIsRead }
+{}
+
+/// The text of a network file of format 3 with a stream and a flow for each of its four ports, and the network that it
+/// declares.
+pub fn ports_are_read()
+    ensures { PortsAreRead }
+{}
+
+/// Texts of formats 1 and 2 of a line of 16 links, whose stream goes along all of it, and of one of 17, where it is
+/// over the limit; a text of format 3 of the longer one.
+pub fn lines_are_limited()
+    ensures { LinesAreLimited }
 {}
 
 /// A further table of each array that lacks a key, has one too many or one of the wrong kind is told by its number.

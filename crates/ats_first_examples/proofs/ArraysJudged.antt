@@ -47,6 +47,14 @@ arrays_have_limits = record {
   streams = refl;
   most_flows = refl;
   flows = refl;
+  most_for_ports = refl;
+  over_for_ports = refl;
+  beside_streams = refl;
+  most_beside = refl;
+  flows_for_ports = refl;
+  beside_flows = refl;
+  most_flows_for_ports = refl;
+  without_links = refl;
 }
 
 empty_are_taken : EmptyAreTaken

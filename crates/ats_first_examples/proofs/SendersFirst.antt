@@ -1,53 +1,80 @@
-use Rattle.std.proofs.Common.{◌≡◌, ℕ, List, [], ◌∷◌, Some, None, Result, Ok, Err, refl, ap, ◌∙◌}
+use Rattle.std.proofs.Common.{◌≡◌, List, [], ◌∷◌, ◌++◌, Some, None, Result, Ok, Err, refl, ap, ◌∙◌}
 use Rattle.std.specs.Prelude.{codes}
 use Rattle.ats_num.specs.Failure.{◌>>=◌}
 use Rattle.ats_topology.specs.Topology.{DeclaredTopology, topology_of}
 use Rattle.ats_streams.specs.Stream.{declared_stream}
 use Rattle.ats_streams.specs.declared.fault.StreamFault.TheVariants as rule
 use Rattle.ats_network.specs.Network.{DeclaredNetwork, declared_network}
+use Rattle.ats_network_table.specs.declared.format.Format.TheVariants.{One, Three, Two}
 use Rattle.ats_network_toml.specs.Document as file
 use Rattle.ats_network_file.specs.Reading.{links_of, nodes_of}
-use Rattle.ats_network_file.specs.Senders.{all_added, flow_added, legs_in, path_in, stream_added}
+use Rattle.ats_network_file.specs.Senders.{all_added, alone, flow_added, legs_in, path_in, placed, stream_added}
+use Rattle.ats_network_file.specs.declared.senders.Place.{Place}
 use Rattle.ats_network_file.specs.declared.fault.NetFault.{NetFault}
 use Rattle.ats_network_file.specs.declared.fault.NetFault.TheVariants as fault
 use Rattle.ats_network_file.specs.declared.senders.SenderTable.TheVariants.{Flow, Stream}
 use Rattle.ats_examples.proofs.NetworkTest.{valid_from_by}
-use Rattle.ats_file_examples.proofs.Steps.{flow_is, legs_is, none_more, one_leg, one_more, path_is}
-use Rattle.ats_file_examples.proofs.Steps.{stream_is}
+use Rattle.ats_file_examples.proofs.Steps.{at_flow, at_stream, flow_is, legs_is, none_more, one_leg, one_more}
+use Rattle.ats_file_examples.proofs.Steps.{path_is, stream_is}
 use Rattle.ats_text_examples.specs.Worked.{way}
 use Rattle.ats_first_examples.specs.Senders.{EntriesAreFirst, EntriesAreTold, FlowsAreFirst, RoutesAreJudged}
 use Rattle.ats_first_examples.specs.Senders.{SendersAreFirst, StreamsAreFirst, along, between, file_with, first, flow}
 use Rattle.ats_first_examples.specs.Senders.{nowhere, stream, there, with_senders}
-use Rattle.ats_first_examples.proofs.Routes.{no_path, no_port}
+use Rattle.ats_first_examples.proofs.Routes.{no_path, no_port, not_joined}
 
 -- Routes by a test of their ports, and the senders of a file one after another.
 
 routes_are_judged : RoutesAreJudged
 routes_are_judged = record {
-  right = legs_is way.topology 5 (along (codes "s1" ∷ codes "b1" ∷ codes "b2" ∷ codes "s2" ∷ []) ∷ [])
-      (0 ∷ 2 ∷ 4 ∷ []) refl (valid_from_by way.topology 0 (0 ∷ 2 ∷ 4 ∷ []) refl);
-  back = legs_is way.topology 5 (along (codes "s2" ∷ codes "b2" ∷ codes "b1" ∷ codes "s1" ∷ []) ∷ [])
-      (5 ∷ 3 ∷ 1 ∷ []) refl (valid_from_by way.topology 1 (5 ∷ 3 ∷ 1 ∷ []) refl);
-  shortest = legs_is way.topology 5 (between (codes "s1") (codes "s2") ∷ []) (0 ∷ 2 ∷ 4 ∷ []) refl
+  right = legs_is Two way.topology (at_stream 5) (along (codes "s1" ∷ codes "b1" ∷ codes "b2" ∷ codes "s2" ∷ []) ∷ [])
+      (0 ∷ 2 ∷ 4 ∷ []) refl refl (valid_from_by way.topology 0 (0 ∷ 2 ∷ 4 ∷ []) refl);
+  back = legs_is Two way.topology (at_stream 5) (along (codes "s2" ∷ codes "b2" ∷ codes "b1" ∷ codes "s1" ∷ []) ∷ [])
+      (5 ∷ 3 ∷ 1 ∷ []) refl refl (valid_from_by way.topology 1 (5 ∷ 3 ∷ 1 ∷ []) refl);
+  shortest = legs_is Two way.topology (at_stream 5) (between (codes "s1") (codes "s2") ∷ []) (0 ∷ 2 ∷ 4 ∷ []) refl refl
       (valid_from_by way.topology 0 (0 ∷ 2 ∷ 4 ∷ []) refl);
   no_node = refl;
   no_first = refl;
   no_link = refl;
-  from_bridge = no_path way.topology 5 (along (codes "b1" ∷ codes "b2" ∷ codes "s2" ∷ [])) (2 ∷ 4 ∷ []) 2 1
-      refl refl refl;
-  to_bridge = no_path way.topology 5 (along (codes "s1" ∷ codes "b1" ∷ codes "b2" ∷ [])) (0 ∷ 2 ∷ []) 0 3 refl
+  from_bridge = not_joined Two way.topology (at_stream 5) (along (codes "b1" ∷ codes "b2" ∷ codes "s2" ∷ []))
+      (2 ∷ 4 ∷ [])
+      refl (valid_from_by way.topology 2 (2 ∷ 4 ∷ []) refl) refl;
+  to_bridge = not_joined Two way.topology (at_stream 5) (along (codes "s1" ∷ codes "b1" ∷ codes "b2" ∷ []))
+      (0 ∷ 2 ∷ []) refl
+      (valid_from_by way.topology 0 (0 ∷ 2 ∷ []) refl) refl;
+  and_back = no_path Two way.topology (at_stream 5) (along (codes "s1" ∷ codes "b1" ∷ codes "s1" ∷ []))
+      (0 ∷ 1 ∷ []) 0 0 refl
       refl refl;
-  and_back = no_path way.topology 5 (along (codes "s1" ∷ codes "b1" ∷ codes "s1" ∷ [])) (0 ∷ 1 ∷ []) 0 0 refl
-      refl refl;
-  twice = no_path way.topology 5
+  twice = no_path Two way.topology (at_stream 5)
       (along (codes "s1" ∷ codes "b1" ∷ codes "b2" ∷ codes "b1" ∷ codes "b2" ∷ codes "s2" ∷ []))
       (0 ∷ 2 ∷ 3 ∷ 2 ∷ 4 ∷ []) 0 1 refl refl refl;
-  one_node = no_port way.topology 5 (along (codes "s1" ∷ [])) [] refl refl;
-  one_end = no_port way.topology 5 (between (codes "s1") (codes "s1")) [] refl refl;
-  end_at_bridge = no_path way.topology 5 (between (codes "s1") (codes "b2")) (0 ∷ 2 ∷ []) 0 3 refl refl refl;
-  begin_at_bridge = no_path way.topology 5 (between (codes "b1") (codes "s2")) (2 ∷ 4 ∷ []) 2 1 refl refl refl;
+  one_node = no_port Two way.topology (at_stream 5) (along (codes "s1" ∷ [])) [] refl refl;
+  one_end = no_port Two way.topology (at_stream 5) (between (codes "s1") (codes "s1")) [] refl refl;
+  end_at_bridge = not_joined Two way.topology (at_stream 5) (between (codes "s1") (codes "b2")) (0 ∷ 2 ∷ []) refl
+      (valid_from_by way.topology 0 (0 ∷ 2 ∷ []) refl) refl;
+  begin_at_bridge = not_joined Two way.topology (at_stream 5) (between (codes "b1") (codes "s2")) (2 ∷ 4 ∷ []) refl
+      (valid_from_by way.topology 2 (2 ∷ 4 ∷ []) refl) refl;
   no_from = refl;
   no_to = refl;
+  from_bridge_in_one = not_joined One way.topology (at_stream 5) (along (codes "b1" ∷ codes "b2" ∷ codes "s2" ∷ []))
+      (2 ∷ 4 ∷ [])
+      refl (valid_from_by way.topology 2 (2 ∷ 4 ∷ []) refl) refl;
+  from_bridge_in_three = legs_is Three way.topology (at_stream 5)
+      (along (codes "b1" ∷ codes "b2" ∷ codes "s2" ∷ []) ∷ [])
+      (2 ∷ 4 ∷ []) refl refl (valid_from_by way.topology 2 (2 ∷ 4 ∷ []) refl);
+  to_bridge_in_three = legs_is Three way.topology (at_stream 5) (along (codes "s1" ∷ codes "b1" ∷ codes "b2" ∷ []) ∷ [])
+      (0 ∷ 2 ∷ []) refl refl (valid_from_by way.topology 0 (0 ∷ 2 ∷ []) refl);
+  bridges_in_three = legs_is Three way.topology (at_stream 5) (between (codes "b1") (codes "b2") ∷ [])
+      (2 ∷ []) refl refl
+      (valid_from_by way.topology 2 (2 ∷ []) refl);
+  end_at_bridge_in_three = legs_is Three way.topology (at_stream 5) (between (codes "s1") (codes "b2") ∷ [])
+      (0 ∷ 2 ∷ []) refl refl
+      (valid_from_by way.topology 0 (0 ∷ 2 ∷ []) refl);
+  begin_at_bridge_in_three = legs_is Three way.topology (at_stream 5) (between (codes "b1") (codes "s2") ∷ [])
+      (2 ∷ 4 ∷ []) refl
+      refl (valid_from_by way.topology 2 (2 ∷ 4 ∷ []) refl);
+  and_back_in_three = no_path Three way.topology (at_stream 5) (along (codes "s1" ∷ codes "b1" ∷ codes "s1" ∷ []))
+      (0 ∷ 1 ∷ []) 0 0
+      refl refl refl;
 }
 
 -- the topology of the file, and the network with so many of the first stream
@@ -61,62 +88,73 @@ abbrev one_yet : DeclaredNetwork
 one_yet = declared_network line
     (declared_stream (codes "a") (0 ∷ 2 ∷ []) (1 ∷ 1 ∷ []) 1 672 64 64 1 (Some (0xA1, 7)) ∷ []) []
 
-found_there : (n : ℕ) → path_in line n there ≡ Ok (0 ∷ 2 ∷ [])
-found_there n = path_is line n there (0 ∷ 2 ∷ []) refl (valid_from_by line 0 (0 ∷ 2 ∷ []) refl)
+found_there : (n : Place) → path_in Two line n there ≡ Ok (0 ∷ 2 ∷ [])
+found_there n = path_is Two line n there (0 ∷ 2 ∷ []) refl refl (valid_from_by line 0 (0 ∷ 2 ∷ []) refl)
 
 -- as a flow's path, and as the legs of a stream
-legs_there : (n : ℕ) → legs_in line n (there ∷ []) ≡ Ok (one_leg (0 ∷ 2 ∷ []))
-legs_there n = legs_is line n (there ∷ []) (0 ∷ 2 ∷ []) refl (valid_from_by line 0 (0 ∷ 2 ∷ []) refl)
+legs_there : (n : Place) → legs_in Two line n (there ∷ []) ≡ Ok (one_leg (0 ∷ 2 ∷ []))
+legs_there n = legs_is Two line n (there ∷ []) (0 ∷ 2 ∷ []) refl refl (valid_from_by line 0 (0 ∷ 2 ∷ []) refl)
 
-first_added : stream_added none_yet 1 first ≡ Ok one_yet
-first_added = stream_is none_yet 1 first (one_leg (0 ∷ 2 ∷ [])) (Ok one_yet) (legs_there 1) refl
+first_added : stream_added Two none_yet (at_stream 1) first ≡ Ok one_yet
+first_added =
+    stream_is Two none_yet (at_stream 1) first (one_leg (0 ∷ 2 ∷ [])) (Ok one_yet) (legs_there (at_stream 1)) refl
 
 -- behind the first stream
+abbrev flows_of : List file.DeclaredFlow → List (Place × file.DeclaredFlow)
+flows_of flows = placed alone Flow 1 flows ++ []
+
 behind_first : (streams : List file.DeclaredStream) (flows : List file.DeclaredFlow)
-    (due : Result DeclaredNetwork NetFault) → all_added stream_added one_yet 2 streams ≡ due
-    → with_senders streams flows ≡ (due >>= λ streamed. all_added flow_added streamed 1 flows)
+    (due : Result DeclaredNetwork NetFault)
+    → all_added (stream_added Two) one_yet (placed alone Stream 2 streams ++ []) ≡ due
+    → with_senders streams flows ≡ (due >>= λ streamed. all_added (flow_added Two) streamed (flows_of flows))
 behind_first streams flows due is =
-    ap (λ (r : Result DeclaredNetwork NetFault). r >>= λ streamed. all_added flow_added streamed 1 flows)
-    (one_more stream_added none_yet one_yet 1 first streams first_added ∙ is)
+    ap (λ (r : Result DeclaredNetwork NetFault). r >>= λ streamed. all_added (flow_added Two) streamed (flows_of flows))
+    (one_more (stream_added Two) none_yet one_yet (at_stream 1) first (placed alone Stream 2 streams ++ []) first_added
+    ∙ is)
 
 -- a second stream has this fault, whatever comes behind it
 second_fails : (entry : file.DeclaredStream) (streams : List file.DeclaredStream) (flows : List file.DeclaredFlow)
-    (why : NetFault) → stream_added one_yet 2 entry ≡ Err why → with_senders (entry ∷ streams) flows ≡ Err why
+    (why : NetFault) → stream_added Two one_yet (at_stream 2) entry ≡ Err why
+    → with_senders (entry ∷ streams) flows ≡ Err why
 second_fails entry streams flows why is =
-    behind_first (entry ∷ streams) flows (Err why) (none_more stream_added one_yet 2 entry streams why is)
+    behind_first (entry ∷ streams) flows (Err why)
+    (none_more (stream_added Two) one_yet (at_stream 2) entry (placed alone Stream 3 streams ++ []) why is)
 
 -- and so a first flow
 flow_fails : (entry : file.DeclaredFlow) (flows : List file.DeclaredFlow) (why : NetFault)
-    → flow_added one_yet 1 entry ≡ Err why → with_senders [] (entry ∷ flows) ≡ Err why
+    → flow_added Two one_yet (at_flow 1) entry ≡ Err why → with_senders [] (entry ∷ flows) ≡ Err why
 flow_fails entry flows why is =
-    behind_first [] (entry ∷ flows) (Ok one_yet) refl ∙ none_more flow_added one_yet 1 entry flows why is
+    behind_first [] (entry ∷ flows) (Ok one_yet) refl
+    ∙ none_more (flow_added Two) one_yet (at_flow 1) entry (placed alone Flow 2 flows ++ []) why is
 
-identity_twice : stream_added one_yet 2 (stream (codes "b") there 1 (Some (0xA1, 7))) ≡ Err (fault.IdentityTwice 2)
-identity_twice = stream_is one_yet 2 (stream (codes "b") there 1 (Some (0xA1, 7))) (one_leg (0 ∷ 2 ∷ []))
-    (Err (fault.IdentityTwice 2)) (legs_there 2) refl
+identity_twice : stream_added Two one_yet (at_stream 2) (stream (codes "b") there 1 (Some (0xA1, 7)))
+    ≡ Err (fault.IdentityTwice 2)
+identity_twice = stream_is Two one_yet (at_stream 2) (stream (codes "b") there 1 (Some (0xA1, 7)))
+    (one_leg (0 ∷ 2 ∷ [])) (Err (fault.IdentityTwice 2)) (legs_there (at_stream 2)) refl
 
 streams_are_first : StreamsAreFirst
 streams_are_first = record {
   path = second_fails (stream (codes "a") nowhere 0 (Some (0xA1, 7))) [] [] (fault.BadPath Stream 2) refl;
   class = second_fails (stream (codes "a") there 0 (Some (0xA1, 7))) [] [] (fault.Sender Stream 2 rule.BadClass)
-      (stream_is one_yet 2 (stream (codes "a") there 0 (Some (0xA1, 7))) (one_leg (0 ∷ 2 ∷ []))
-      (Err (fault.Sender Stream 2 rule.BadClass)) (legs_there 2) refl);
+      (stream_is Two one_yet (at_stream 2) (stream (codes "a") there 0 (Some (0xA1, 7))) (one_leg (0 ∷ 2 ∷ []))
+      (Err (fault.Sender Stream 2 rule.BadClass)) (legs_there (at_stream 2)) refl);
   name = second_fails (stream (codes "a") there 1 (Some (0xA1, 7))) [] [] (fault.SenderTwice Stream 2)
-      (stream_is one_yet 2 (stream (codes "a") there 1 (Some (0xA1, 7))) (one_leg (0 ∷ 2 ∷ []))
-      (Err (fault.SenderTwice Stream 2)) (legs_there 2) refl);
+      (stream_is Two one_yet (at_stream 2) (stream (codes "a") there 1 (Some (0xA1, 7))) (one_leg (0 ∷ 2 ∷ []))
+      (Err (fault.SenderTwice Stream 2)) (legs_there (at_stream 2)) refl);
   identity = second_fails (stream (codes "b") there 1 (Some (0xA1, 7))) [] [] (fault.IdentityTwice 2) identity_twice;
 }
 
-named_twice : flow_added one_yet 1 (flow (codes "a") there 64) ≡ Err (fault.SenderTwice Flow 1)
-named_twice = flow_is one_yet 1 (flow (codes "a") there 64) (0 ∷ 2 ∷ []) (Err (fault.SenderTwice Flow 1))
-    (found_there 1) refl
+named_twice : flow_added Two one_yet (at_flow 1) (flow (codes "a") there 64) ≡ Err (fault.SenderTwice Flow 1)
+named_twice = flow_is Two one_yet (at_flow 1) (flow (codes "a") there 64) (0 ∷ 2 ∷ []) (Err (fault.SenderTwice Flow 1))
+    (found_there (at_flow 1)) refl
 
 flows_are_first : FlowsAreFirst
 flows_are_first = record {
   path = flow_fails (flow (codes "a") nowhere 63) [] (fault.BadPath Flow 1) refl;
   size = flow_fails (flow (codes "a") there 63) [] (fault.Sender Flow 1 rule.BadSizes)
-      (flow_is one_yet 1 (flow (codes "a") there 63) (0 ∷ 2 ∷ []) (Err (fault.Sender Flow 1 rule.BadSizes))
-      (found_there 1) refl);
+      (flow_is Two one_yet (at_flow 1) (flow (codes "a") there 63) (0 ∷ 2 ∷ [])
+      (Err (fault.Sender Flow 1 rule.BadSizes))
+      (found_there (at_flow 1)) refl);
   name = flow_fails (flow (codes "a") there 64) [] (fault.SenderTwice Flow 1) named_twice;
 }
 
@@ -138,6 +176,8 @@ entries_are_told = record {
   streams = refl;
   flow_name = refl;
   flows = refl;
+  for_ports = refl;
+  name_for_ports = refl;
 }
 
 pub senders_are_first : SendersAreFirst

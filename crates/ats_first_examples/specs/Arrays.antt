@@ -1,11 +1,13 @@
 use Rattle.std.specs.Prelude.{◌≡◌, ℕ, List, [], ◌∷◌, ◌++◌, take, drop, map, replicate, pos, Result, Ok}
 use Rattle.std.specs.Prelude.{Some, Err}
 use Rattle.toml.specs.Data.{Data, Members, integer, array, table, no_items, item, no_members}
-use Rattle.ats_network_table.specs.declared.format.Format.TheVariants.{Two}
+use Rattle.ats_network_table.specs.declared.format.Format.TheVariants.{Three, Two}
 use Rattle.ats_network_table.specs.declared.fault.DocumentFault.{DocumentFault}
 use Rattle.ats_network_table.specs.declared.fault.DocumentFault.TheVariants.{Limit, Missing, Unknown, WrongKind}
 use Rattle.ats_network_table.specs.declared.key.Key.TheVariants as key
-use Rattle.ats_network_table.specs.declared.table.Table.TheVariants.{Bridge, Flow, Link, Station, Stream, Top}
+use Rattle.ats_network_table.specs.declared.table.Table.TheVariants.{Bridge, Flow, Link, LinkLocal, LinkLocalFlow}
+use Rattle.ats_network_table.specs.declared.table.Table.TheVariants.{Station}
+use Rattle.ats_network_table.specs.declared.table.Table.TheVariants.{Stream, Top}
 use Rattle.ats_network_toml.specs.Document.{DeclaredDocument}
 use Rattle.ats_network_toml.specs.Reading.{arrays_read, document_in, tables_in}
 use Rattle.ats_first_examples.specs.Tables.{Values, a_name, a_number, link_right, members_of, stream_right}
@@ -68,6 +70,9 @@ link = members_of link_right
 abbrev pub stream : Members
 stream = members_of stream_right
 
+abbrev pub flow : Members
+flow = members_of ((key.Name, a_name) ∷ (key.From, a_name) ∷ (key.To, a_name) ∷ (key.MaxOctets, a_number) ∷ [])
+
 -- what the arrays of a file declare, by their tables
 abbrev pub file_of : List Members → List Members → List Members → List Members → List Members
     → Result DeclaredDocument DocumentFault
@@ -77,7 +82,22 @@ file_of stations bridges links streams flows = arrays_read (record {
   bridges = bridges;
   links = links;
   streams = streams;
+  link_locals = [];
   flows = flows;
+  link_local_flows = [];
+})
+
+-- and those of a file of format 3 with links and tables for each port alone, beside streams and flows
+abbrev pub for_ports : ℕ → ℕ → ℕ → ℕ → ℕ → Result DeclaredDocument DocumentFault
+for_ports links streams at_ports flows flows_there = arrays_read (record {
+  format = Three;
+  stations = [];
+  bridges = [];
+  links = replicate links link;
+  streams = replicate streams stream;
+  link_locals = replicate at_ports no_members;
+  flows = replicate flows flow;
+  link_local_flows = replicate flows_there no_members;
 })
 
 -- so many tables with nothing in them
@@ -116,6 +136,14 @@ pub record ArraysHaveLimits : Type 0 where
   pub streams : file_of [] [] [] (empty 4097) [] ≡ Err (Limit Stream)
   pub most_flows : file_of [] [] [] [] (empty 1024) ≡ Err (Missing Flow 1 key.Name)
   pub flows : file_of [] [] [] [] (empty 1025) ≡ Err (Limit Flow)
+  pub most_for_ports : for_ports 64 0 32 0 0 ≡ Err (Missing LinkLocal 1 key.Name)
+  pub over_for_ports : for_ports 64 0 33 0 33 ≡ Err (Limit LinkLocal)
+  pub beside_streams : for_ports 64 1 32 0 33 ≡ Err (Limit LinkLocal)
+  pub most_beside : for_ports 1024 0 2 0 0 ≡ Err (Missing LinkLocal 1 key.Name)
+  pub flows_for_ports : for_ports 64 0 0 0 33 ≡ Err (Limit LinkLocalFlow)
+  pub beside_flows : for_ports 64 0 0 1 32 ≡ Err (Limit LinkLocalFlow)
+  pub most_flows_for_ports : for_ports 64 0 0 0 32 ≡ Err (Missing LinkLocalFlow 1 key.Name)
+  pub without_links : for_ports 0 0 5000 0 0 ≡ Err (Missing LinkLocal 1 key.Name)
 
 -- an array without tables is as good as none
 pub record EmptyAreTaken : Type 0 where
@@ -123,7 +151,16 @@ pub record EmptyAreTaken : Type 0 where
   pub each : map (λ k. document_in (members_of ((key.Format, integer (pos 2)) ∷ (k, array no_items) ∷ [])))
       (key.Station ∷ key.Bridge ∷ key.Link ∷ key.Stream ∷ key.Flow ∷ []) ≡ replicate 5 (file_of [] [] [] [] [])
   pub declared : file_of [] [] [] [] []
-      ≡ Ok (record { stations = []; bridges = []; links = []; streams = []; flows = [] })
+      ≡ Ok (record {
+        format = Two;
+        stations = [];
+        bridges = [];
+        links = [];
+        streams = [];
+        link_locals = [];
+        flows = [];
+        link_local_flows = [];
+      })
 
 pub record ArraysAreJudged : Type 0 where
   pub top : TopIsFirst

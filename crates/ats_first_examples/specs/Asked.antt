@@ -1,5 +1,6 @@
 use Rattle.std.specs.Prelude.{◌≡◌, ℕ, List, [], ◌∷◌, ◌++◌, codes, replicate, None, Result, Ok, Err}
-use Rattle.ats_topology.specs.Topology.{DeclaredTopology, topology_of}
+use Rattle.ats_topology.specs.Topology.{topology_of}
+use Rattle.ats_network.specs.Network.{DeclaredNetwork, declared_network}
 use Rattle.ats_streams.specs.Stream.{declared_stream}
 use Rattle.ats_streams.specs.declared.fault.StreamFault.TheVariants as rule
 use Rattle.ats_requests.specs.declared.request.Request.{Request}
@@ -13,14 +14,14 @@ use Rattle.ats_text_examples.specs.Worked.{way}
 -- Lines of request files with several faults at once, and which of them is named.
 
 -- two stations between which no walk leads
-abbrev pub parted : DeclaredTopology
-parted = topology_of
+abbrev pub parted : DeclaredNetwork
+parted = declared_network (topology_of
     (station (codes "s1") ∷ station (codes "s2") ∷ bridge (codes "b1") 1 ∷ bridge (codes "b2") 1 ∷ [])
-    (link (codes "s1") (codes "b1") ∷ link (codes "s2") (codes "b2") ∷ [])
+    (link (codes "s1") (codes "b1") ∷ link (codes "s2") (codes "b2") ∷ [])) [] []
 
 -- what is read of these lines over the worked network, behind one
 abbrev pub asked : List ℕ → Result (List Request) RequestFault
-asked text = requests_of way.topology (codes "withdraw a\n" ++ text)
+asked text = requests_of way (codes "withdraw a\n" ++ text)
 
 -- and over those stations
 abbrev pub asked_apart : List ℕ → Result (List Request) RequestFault
@@ -64,7 +65,7 @@ pub record WordsAreFirst : Type 0 where
 -- before a later one, whichever their faults are. A file may ask nothing
 pub record OtherLinesAreFirst : Type 0 where
   pub no_line : asked [] ≡ Ok (Withdraw (codes "a") ∷ [])
-  pub none_asked : requests_of way.topology (codes "# a\n\n") ≡ Ok []
+  pub none_asked : requests_of way (codes "# a\n\n") ≡ Ok []
   pub withdraw_long : asked (codes "withdraw a b\n") ≡ Err (request.BadLine 2)
   pub withdraw_short : asked (codes "withdraw\n") ≡ Err (request.BadLine 2)
   pub withdraw_no_name : asked (codes "withdraw a.\n") ≡ Err (request.BadLine 2)
@@ -79,7 +80,7 @@ pub record OtherLinesAreFirst : Type 0 where
 
 -- what is read of these lines behind so many requests
 abbrev pub asked_behind : ℕ → List (List ℕ) → Result (List Request) RequestFault
-asked_behind count lines = requests_from way.topology (replicate count (Withdraw (codes "a"))) 5 lines
+asked_behind count lines = requests_from way (replicate count (Withdraw (codes "a"))) 5 lines
 
 -- at most 10,000 requests are made; one more is told last of its line's faults, and a comment is none
 pub record RequestsHaveLimit : Type 0 where

@@ -20,15 +20,15 @@ over_ports ports rate burst least most deadline =
 -- each rule is broken, and one less each time, where a burst can't be too short and too large at once. The numbers of a
 -- stream alone, as a shape file has them, go in the same order
 pub record StreamRulesAreFirst : Type 0 where
-  pub class : stream_fault (0 ∷ []) (over_ports 17 0 671 63 64 0) ≡ Some rule.BadClass
-  pub count : stream_fault (1 ∷ 1 ∷ []) (over_ports 17 0 671 63 64 0) ≡ Some rule.BadClass
-  pub no_class : stream_fault [] (over_ports 17 0 671 63 64 0) ≡ Some rule.BadClass
-  pub rate : stream_fault (1 ∷ []) (over_ports 17 0 671 63 64 0) ≡ Some rule.BadRate
-  pub sizes : stream_fault (1 ∷ []) (over_ports 17 1 671 63 64 0) ≡ Some rule.BadSizes
-  pub burst : stream_fault (1 ∷ []) (over_ports 17 1 671 64 64 0) ≡ Some rule.BurstBelowFrame
-  pub ports : stream_fault (1 ∷ []) (over_ports 17 1 672 64 64 1) ≡ Some rule.Limit
-  pub deadline : stream_fault (1 ∷ []) (over_ports 16 1 672 64 64 0) ≡ Some rule.Limit
-  pub none : stream_fault (1 ∷ []) (over_ports 16 1 672 64 64 1) ≡ None
+  pub class : stream_fault (0 ∷ []) (over_ports 65 0 671 63 64 0) ≡ Some rule.BadClass
+  pub count : stream_fault (1 ∷ 1 ∷ []) (over_ports 65 0 671 63 64 0) ≡ Some rule.BadClass
+  pub no_class : stream_fault [] (over_ports 65 0 671 63 64 0) ≡ Some rule.BadClass
+  pub rate : stream_fault (1 ∷ []) (over_ports 65 0 671 63 64 0) ≡ Some rule.BadRate
+  pub sizes : stream_fault (1 ∷ []) (over_ports 65 1 671 63 64 0) ≡ Some rule.BadSizes
+  pub burst : stream_fault (1 ∷ []) (over_ports 65 1 671 64 64 0) ≡ Some rule.BurstBelowFrame
+  pub ports : stream_fault (1 ∷ []) (over_ports 65 1 672 64 64 1) ≡ Some rule.Limit
+  pub deadline : stream_fault (1 ∷ []) (over_ports 64 1 672 64 64 0) ≡ Some rule.Limit
+  pub none : stream_fault (1 ∷ []) (over_ports 64 1 672 64 64 1) ≡ None
   pub class_over_limit : stream_fault (8 ∷ []) (over_ports 1 1 1000000001 64 64 1) ≡ Some rule.BadClass
   pub rate_over_limit : stream_fault (1 ∷ []) (over_ports 1 100000000001 1000000001 64 64 1) ≡ Some rule.BadRate
   pub sizes_over_limit : stream_fault (1 ∷ []) (over_ports 1 1 1000000001 65 64 1) ≡ Some rule.BadSizes
@@ -41,9 +41,9 @@ pub record StreamRulesAreFirst : Type 0 where
 
 -- the same of a flow
 pub record FlowRulesAreFirst : Type 0 where
-  pub both : flow_fault (declared_flow (codes "i") (replicate 17 0) 63) ≡ Some rule.BadSizes
-  pub ports : flow_fault (declared_flow (codes "i") (replicate 17 0) 64) ≡ Some rule.Limit
-  pub none : flow_fault (declared_flow (codes "i") (replicate 16 0) 64) ≡ None
+  pub both : flow_fault (declared_flow (codes "i") (replicate 65 0) 63) ≡ Some rule.BadSizes
+  pub ports : flow_fault (declared_flow (codes "i") (replicate 65 0) 64) ≡ Some rule.Limit
+  pub none : flow_fault (declared_flow (codes "i") (replicate 64 0) 64) ≡ None
 
 -- a stream with this name, and this address and VLAN identifier, if any
 abbrev pub named : List ℕ → Option (ℕ × ℕ) → DeclaredStream
@@ -63,26 +63,26 @@ crowded streams flows =
 -- of a stream that comes in its name is told first, then its identity, then that there are too many; names of flows are
 -- taken too
 pub record StreamsComeIn : Type 0 where
-  pub all : stream_push_fault (crowded 4096 1024) (named (codes "w") (Some (0xA1, 7))) ≡ Some push.NameTaken
-  pub of_flow : stream_push_fault (crowded 4096 1024) (named (codes "i") (Some (0xA1, 7))) ≡ Some push.NameTaken
-  pub two : stream_push_fault (crowded 4096 1024) (named (codes "x") (Some (0xA1, 7))) ≡ Some push.IdentityTaken
-  pub over : stream_push_fault (crowded 4096 1024) (named (codes "x") (Some (0xA1, 8))) ≡ Some push.Limit
-  pub unidentified : stream_push_fault (crowded 4096 1024) (named (codes "x") None) ≡ Some push.Limit
-  pub last : stream_push_fault (crowded 4095 1024) (named (codes "x") (Some (0xA1, 8))) ≡ None
+  pub all : stream_push_fault (crowded 4096 4096) (named (codes "w") (Some (0xA1, 7))) ≡ Some push.NameTaken
+  pub of_flow : stream_push_fault (crowded 4096 4096) (named (codes "i") (Some (0xA1, 7))) ≡ Some push.NameTaken
+  pub two : stream_push_fault (crowded 4096 4096) (named (codes "x") (Some (0xA1, 7))) ≡ Some push.IdentityTaken
+  pub over : stream_push_fault (crowded 4096 4096) (named (codes "x") (Some (0xA1, 8))) ≡ Some push.Limit
+  pub unidentified : stream_push_fault (crowded 4096 4096) (named (codes "x") None) ≡ Some push.Limit
+  pub last : stream_push_fault (crowded 4095 4096) (named (codes "x") (Some (0xA1, 8))) ≡ None
 
 -- and so of a flow
 pub record FlowsComeIn : Type 0 where
-  pub both : flow_push_fault (crowded 4096 1024) (flow_named (codes "i")) ≡ Some push.NameTaken
-  pub of_stream : flow_push_fault (crowded 4096 1024) (flow_named (codes "w")) ≡ Some push.NameTaken
-  pub over : flow_push_fault (crowded 4096 1024) (flow_named (codes "x")) ≡ Some push.Limit
-  pub last : flow_push_fault (crowded 4096 1023) (flow_named (codes "x")) ≡ None
+  pub both : flow_push_fault (crowded 4096 4096) (flow_named (codes "i")) ≡ Some push.NameTaken
+  pub of_stream : flow_push_fault (crowded 4096 4096) (flow_named (codes "w")) ≡ Some push.NameTaken
+  pub over : flow_push_fault (crowded 4096 4096) (flow_named (codes "x")) ≡ Some push.Limit
+  pub last : flow_push_fault (crowded 4096 4095) (flow_named (codes "x")) ≡ None
 
 -- and of a stream that is to be admitted
 pub record EntriesAreJudged : Type 0 where
-  pub both : entry_fault (crowded 4096 1024) (named (codes "w") None) ≡ Some denied.NameTaken
-  pub of_flow : entry_fault (crowded 4096 1024) (named (codes "i") None) ≡ Some denied.NameTaken
-  pub over : entry_fault (crowded 4096 1024) (named (codes "x") None) ≡ Some denied.Limit
-  pub last : entry_fault (crowded 4095 1024) (named (codes "x") None) ≡ None
+  pub both : entry_fault (crowded 4096 4096) (named (codes "w") None) ≡ Some denied.NameTaken
+  pub of_flow : entry_fault (crowded 4096 4096) (named (codes "i") None) ≡ Some denied.NameTaken
+  pub over : entry_fault (crowded 4096 4096) (named (codes "x") None) ≡ Some denied.Limit
+  pub last : entry_fault (crowded 4095 4096) (named (codes "x") None) ≡ None
 
 pub record RulesAreFirst : Type 0 where
   pub streams : StreamRulesAreFirst

@@ -5,6 +5,8 @@ use Rattle.ats_network.specs.Network.{DeclaredNetwork}
 use Rattle.ats_network.specs.declared.fault.PushFault.TheVariants as push
 use Rattle.ats_route_tree.specs.Legs.{DeclaredLegs}
 use Rattle.ats_network_table.specs.declared.fault.DocumentFault.TheVariants.{Limit}
+use Rattle.ats_network_table.specs.declared.format.Format.{Format}
+use Rattle.ats_network_table.specs.declared.format.Format.TheVariants.{One, Three, Two}
 use Rattle.ats_network_table.specs.declared.table.Table.TheVariants as table
 use Rattle.ats_network_toml.specs.Document as file
 use Rattle.ats_network_toml.specs.declared.entries.LinkEntry.{LinkEntry}
@@ -12,7 +14,9 @@ use Rattle.ats_network_file.specs.Reading.{network_in}
 use Rattle.ats_network_file.specs.Senders.{legs_in, refusal_of}
 use Rattle.ats_network_file.specs.declared.fault.NetFault.{NetFault}
 use Rattle.ats_network_file.specs.declared.fault.NetFault.TheVariants as fault
-use Rattle.ats_network_file.specs.declared.senders.SenderTable.TheVariants.{Flow, Stream}
+use Rattle.ats_network_file.specs.declared.senders.Place.{Place}
+use Rattle.ats_network_file.specs.declared.senders.SenderTable.{SenderTable}
+use Rattle.ats_network_file.specs.declared.senders.SenderTable.TheVariants.{Flow, LinkLocal, LinkLocalFlow, Stream}
 use Rattle.ats_text_examples.specs.Worked.{way}
 
 -- Streams and flows of a network file with several faults at once, and which of them is named.
@@ -24,15 +28,24 @@ along names = file.path names
 abbrev pub between : List ℕ → List ℕ → file.DeclaredRoute
 between from to = file.ends from to
 
--- what is found over the worked network for a route: s1 and s2 are its stations, and b1 and b2 its bridges between them
+-- the place of the fifth entry of a table
+abbrev pub at_number : SenderTable → Place
+at_number table = record { table = table; number = 5 }
+
+-- what is found over the worked network for a route, in a file of this format, and in one of format 2: s1 and s2 are
+-- its stations, and b1 and b2 its bridges between them
+abbrev pub found_in : Format → file.DeclaredRoute → Result DeclaredLegs NetFault
+found_in format route = legs_in format way.topology (at_number Stream) (route ∷ [])
+
 abbrev pub found : file.DeclaredRoute → Result DeclaredLegs NetFault
-found route = legs_in way.topology 5 (route ∷ [])
+found = found_in Two
 
 -- the legs of one route
 abbrev pub leg : List ℕ → DeclaredLegs
 leg path = record { ports = path; branches = [] }
 
--- a route leads from a station to another one, over links, and comes to no node twice
+-- a route leads over links to another node, and comes to no node twice. In format 3 it begins and ends at any nodes,
+-- and before at stations
 pub record RoutesAreJudged : Type 0 where
   pub right : found (along (codes "s1" ∷ codes "b1" ∷ codes "b2" ∷ codes "s2" ∷ [])) ≡ Ok (leg (0 ∷ 2 ∷ 4 ∷ []))
   pub back : found (along (codes "s2" ∷ codes "b2" ∷ codes "b1" ∷ codes "s1" ∷ [])) ≡ Ok (leg (5 ∷ 3 ∷ 1 ∷ []))
@@ -51,6 +64,15 @@ pub record RoutesAreJudged : Type 0 where
   pub begin_at_bridge : found (between (codes "b1") (codes "s2")) ≡ Err (fault.BadPath Stream 5)
   pub no_from : found (between (codes "x") (codes "s2")) ≡ Err (fault.BadPath Stream 5)
   pub no_to : found (between (codes "s1") (codes "x")) ≡ Err (fault.BadPath Stream 5)
+  pub from_bridge_in_one : found_in One (along (codes "b1" ∷ codes "b2" ∷ codes "s2" ∷ []))
+      ≡ Err (fault.BadPath Stream 5)
+  pub from_bridge_in_three : found_in Three (along (codes "b1" ∷ codes "b2" ∷ codes "s2" ∷ [])) ≡ Ok (leg (2 ∷ 4 ∷ []))
+  pub to_bridge_in_three : found_in Three (along (codes "s1" ∷ codes "b1" ∷ codes "b2" ∷ [])) ≡ Ok (leg (0 ∷ 2 ∷ []))
+  pub bridges_in_three : found_in Three (between (codes "b1") (codes "b2")) ≡ Ok (leg (2 ∷ []))
+  pub end_at_bridge_in_three : found_in Three (between (codes "s1") (codes "b2")) ≡ Ok (leg (0 ∷ 2 ∷ []))
+  pub begin_at_bridge_in_three : found_in Three (between (codes "b1") (codes "s2")) ≡ Ok (leg (2 ∷ 4 ∷ []))
+  pub and_back_in_three : found_in Three (along (codes "s1" ∷ codes "b1" ∷ codes "s1" ∷ []))
+      ≡ Err (fault.BadPath Stream 5)
 
 -- a stream's table, and a flow's
 abbrev pub stream : List ℕ → file.DeclaredRoute → ℕ → Option (ℕ × ℕ) → file.DeclaredStream
@@ -75,12 +97,15 @@ linked a b = record { a = a; b = b; mbps = 1000; propagation_ns = 500 }
 
 abbrev pub file_with : List LinkEntry → List file.DeclaredStream → List file.DeclaredFlow → file.DeclaredDocument
 file_with links streams flows = record {
+  format = Two;
   stations = record { name = codes "s1" } ∷ record { name = codes "s2" } ∷ [];
   bridges =
       record { name = codes "b1"; processing_min_ns = 1; processing_max_ns = 1; residence_ns = 1 } ∷ [];
   links = linked (codes "s1") (codes "b1") ∷ linked (codes "b1") (codes "s2") ∷ links;
   streams = streams;
+  link_locals = [];
   flows = flows;
+  link_local_flows = [];
 }
 
 -- a stream without a fault, which comes first
@@ -127,11 +152,13 @@ pub record EntriesAreFirst : Type 0 where
 -- why a network does not take the fifth stream or flow, as a fault of the file: the array of those that are too many
 -- has too many tables
 pub record EntriesAreTold : Type 0 where
-  pub stream_name : refusal_of Stream 5 push.NameTaken ≡ fault.SenderTwice Stream 5
-  pub stream_identity : refusal_of Stream 5 push.IdentityTaken ≡ fault.IdentityTwice 5
-  pub streams : refusal_of Stream 5 push.Limit ≡ fault.Form (Limit table.Stream)
-  pub flow_name : refusal_of Flow 5 push.NameTaken ≡ fault.SenderTwice Flow 5
-  pub flows : refusal_of Flow 5 push.Limit ≡ fault.Form (Limit table.Flow)
+  pub stream_name : refusal_of (at_number Stream) push.NameTaken ≡ fault.SenderTwice Stream 5
+  pub stream_identity : refusal_of (at_number Stream) push.IdentityTaken ≡ fault.IdentityTwice 5
+  pub streams : refusal_of (at_number Stream) push.Limit ≡ fault.Form (Limit table.Stream)
+  pub flow_name : refusal_of (at_number Flow) push.NameTaken ≡ fault.SenderTwice Flow 5
+  pub flows : refusal_of (at_number Flow) push.Limit ≡ fault.Form (Limit table.Flow)
+  pub for_ports : refusal_of (at_number LinkLocal) push.Limit ≡ fault.Form (Limit table.LinkLocal)
+  pub name_for_ports : refusal_of (at_number LinkLocalFlow) push.NameTaken ≡ fault.SenderTwice LinkLocalFlow 5
 
 pub record SendersAreFirst : Type 0 where
   pub routes : RoutesAreJudged

@@ -2,7 +2,10 @@ use Rattle.std.specs.Prelude.{◌≡◌, ℕ, zero, suc, ◌+◌, List, [], ◌�
 use Rattle.ats_topology.specs.Topology.{DeclaredTopology, topology_of}
 use Rattle.ats_topology.specs.declared.node.Node.{Node}
 use Rattle.ats_topology.specs.declared.link.Link.{Link}
+use Rattle.ats_network_table.specs.declared.format.Format.TheVariants.{Two}
 use Rattle.ats_network_file.specs.Senders.{legs_in, path_in}
+use Rattle.ats_network_file.specs.declared.senders.Place.{Place}
+use Rattle.ats_network_file.specs.declared.senders.SenderTable.TheVariants.{Flow, Stream}
 use Rattle.ats_network_toml.specs.Document.{DeclaredRoute, ends, path}
 use Rattle.ats_request_file.specs.Reading.{path_between}
 use Rattle.ats_route_tree.specs.Legs.{DeclaredLegs}
@@ -49,12 +52,19 @@ by_ends = ends (codes "s1") (codes "s2")
 abbrev pub one_leg : List ℕ → DeclaredLegs
 one_leg ports = record { ports = ports; branches = [] }
 
+-- the first stream of a file, and the first flow
+abbrev pub first_stream : Place
+first_stream = record { table = Stream; number = 1 }
+
+abbrev pub first_flow : Place
+first_flow = record { table = Flow; number = 1 }
+
 -- a path of 16 links is found by the names of its nodes, for a stream and for a flow, and one of 17 links too, so that
--- it is the limit that is told of it; by its ends one of 8 is found, also for a request
+-- in formats 1 and 2 it is the limit that is told of it; by its ends one of 8 is found, also for a request
 pub record LongPathsAreFound : Type 0 where
-  pub names : legs_in (chain 14) 1 (by_names 14 ∷ []) ≡ Ok (one_leg (ports_from 0 16))
-  pub of_flow : path_in (chain 14) 1 (by_names 14) ≡ Ok (ports_from 0 16)
-  pub names_over : legs_in (chain 15) 1 (by_names 15 ∷ []) ≡ Ok (one_leg (ports_from 0 17))
-  pub of_flow_over : path_in (chain 15) 1 (by_names 15) ≡ Ok (ports_from 0 17)
-  pub of_ends : legs_in (chain 6) 1 (by_ends ∷ []) ≡ Ok (one_leg (ports_from 0 8))
+  pub names : legs_in Two (chain 14) first_stream (by_names 14 ∷ []) ≡ Ok (one_leg (ports_from 0 16))
+  pub of_flow : path_in Two (chain 14) first_flow (by_names 14) ≡ Ok (ports_from 0 16)
+  pub names_over : legs_in Two (chain 15) first_stream (by_names 15 ∷ []) ≡ Ok (one_leg (ports_from 0 17))
+  pub of_flow_over : path_in Two (chain 15) first_flow (by_names 15) ≡ Ok (ports_from 0 17)
+  pub of_ends : legs_in Two (chain 6) first_stream (by_ends ∷ []) ≡ Ok (one_leg (ports_from 0 8))
   pub asked : path_between (chain 6) 0 1 ≡ Some (ports_from 0 8)

@@ -14,6 +14,7 @@ use Rattle.ats_trace.specs.Stored.{travel_at}
 use Rattle.ats_trace.specs.Talker.{IsDeclaredSize, KeepsBuckets, KeepsBucketsBy, frames_of, talker_of}
 use Rattle.ats_trace.specs.declared.journey.Release.{Release}
 use Rattle.ats_soundness_law.specs.Sound.{IsServed, IsSoundBy}
+use Rattle.ats_group.specs.Judge.{ats_judge, bucket_rule}
 use Rattle.ats_lrq.specs.Judge.{lrq_judge, spacing_rule}
 use Rattle.ats_lrq.specs.Narrow.{narrowed}
 use Rattle.ats_lrq_law.proofs.Narrowed.{narrowed_is_sound}
@@ -25,6 +26,7 @@ use Rattle.ats_examples.proofs.LawsMetProofs.{laws_are_met}
 use Rattle.ats_examples.proofs.LegalProofs.{any_lawful}
 use Rattle.ats_examples.proofs.NetworkProofs.{bursts_is}
 use Rattle.ats_examples.proofs.Tests.{all_by, le_of}
+use Rattle.ats_examples.proofs.StationTest.{from_stations}
 use Rattle.ats_lrq_examples.specs.Runs.{spaced, too_soon, two_of_flow}
 use Rattle.ats_lrq_examples.specs.Met.{FlowsAreFree, LawIsMet, RegulatorCounts, SpacingCounts, second_of}
 use Rattle.ats_lrq_examples.proofs.LegalByLrq.{legal_with, residence_is, two_judged}
@@ -109,7 +111,8 @@ law_is_met = record {
   among = (1, lit< tt, refl);
   of_stream = lit< tt;
   keeps = spaced_keeps;
-  served = sound.served spaced spaced_legal (second_of spaced) (1, lit< tt, refl) (lit< tt) spaced_keeps;
+  served = (from_stations spacing_rule lrq_judge line_of_bursts line_rows refl sound).served spaced spaced_legal
+      (second_of spaced) (1, lit< tt, refl) (lit< tt) spaced_keeps;
   sum = refl;
   whole = refl;
 }
@@ -134,7 +137,8 @@ spacing_counts = record {
   not_spaced = soon_not_spaced;
   not_served = soon_not_served;
   unsound = λ all. soon_not_served
-      (all.served too_soon soon_legal (second_of too_soon) (1, lit< tt, refl) (lit< tt) soon_keeps);
+      ((from_stations bucket_rule lrq_judge line_of_bursts line_rows refl all).served too_soon soon_legal
+      (second_of too_soon) (1, lit< tt, refl) (lit< tt) soon_keeps);
 }
 
 no_row : Row
@@ -164,5 +168,6 @@ regulator_counts = record {
   keeps = at_once_keeps;
   not_served = at_once_not_served;
   unsound = λ all. at_once_not_served
-      (all.served out_of_order legal_at_once (travel_at out_of_order 0) (0, lit< tt, refl) (lit< tt) at_once_keeps);
+      ((from_stations bucket_rule ats_judge line_of_bursts line_rows refl all).served out_of_order legal_at_once
+      (travel_at out_of_order 0) (0, lit< tt, refl) (lit< tt) at_once_keeps);
 }

@@ -9,7 +9,8 @@ use Rattle.std.proofs.lemmas.Bool.Decides.{nat_tests}
 use Rattle.ats_io.specs.Text.{lines_of, words_of}
 use Rattle.ats_num.specs.Failure.{◌>>=◌, or_fault}
 use Rattle.ats_topology.specs.Topology.{DeclaredTopology, station_named}
-use Rattle.ats_streams.specs.Stream.{DeclaredStream, stream_fault}
+use Rattle.ats_streams.specs.Stream.{DeclaredStream, stream_fault_within}
+use Rattle.ats_network.specs.Network.{DeclaredNetwork}
 use Rattle.ats_network.specs.Shortest.{shortest_of}
 use Rattle.ats_requests.specs.declared.request.Request.{Request}
 use Rattle.ats_requests.specs.declared.request.Request.TheVariants.{Withdraw}
@@ -106,21 +107,23 @@ asked_least : (topology : DeclaredTopology) (line : List ℕ) (class : Option �
 asked_least topology line None stream is = is
 asked_least topology line (Some class) stream is = is
 
-admit_least : (topology : DeclaredTopology) (n : ℕ) (line : List ℕ) (request : Request)
-    → admit_line topology n (words_of line) ≡ Ok request → HasLeastPath topology line request
-admit_least topology n line request h =
+admit_least : (network : DeclaredNetwork) (n : ℕ) (line : List ℕ) (request : Request)
+    → admit_line network n (words_of line) ≡ Ok request → HasLeastPath network.topology line request
+admit_least network n line request h =
     let words : List (List ℕ) = words_of line in
     let said = both (admit_in n words) _ request h in
-    let path = both (path_in topology n words) _ request said.then in
-    let stream = both (stream_made n said.first (stream_over path.first said.first)) _ request path.then in
+    let path = both (path_in network.topology n words) _ request said.then in
+    let stream = both (stream_made network.most_ports n said.first (stream_over path.first said.first)) _ request
+    path.then in
     let over : stream_over path.first said.first ≡ stream.first =
-    kept (faults.Stream n) (stream_fault (made_class said.first ∷ []) (stream_over path.first said.first))
+    kept (faults.Stream n)
+    (stream_fault_within network.most_ports (made_class said.first ∷ []) (stream_over path.first said.first))
     (stream_over path.first said.first) stream.first stream.is in
     let asks : asked said.first.class stream.first ≡ request = cc (stream.then) in
-    subst (λ (r : Request). HasLeastPath topology line r) asks
-    (asked_least topology line said.first.class stream.first
-    (subst (λ (s : DeclaredStream). IsLeastBetween topology (word words 2) (word words 3) s.ports) over
-    (least_found topology n words path.first path.is)))
+    subst (λ (r : Request). HasLeastPath network.topology line r) asks
+    (asked_least network.topology line said.first.class stream.first
+    (subst (λ (s : DeclaredStream). IsLeastBetween network.topology (word words 2) (word words 3) s.ports) over
+    (least_found network.topology n words path.first path.is)))
 
 withdraw_least : (topology : DeclaredTopology) (n : ℕ) (line : List ℕ) (request : Request)
     → withdraw_line n (words_of line) ≡ Ok request → HasLeastPath topology line request
@@ -132,77 +135,77 @@ withdraw_least topology n line request h =
     subst (λ (r : Request). HasLeastPath topology line r) asks tt
 
 -- what a line asks
-request_least : (topology : DeclaredTopology) (n : ℕ) (line : List ℕ) (request : Request)
-    → request_in topology n (words_of line) ≡ Ok request → HasLeastPath topology line request
-request_least topology n line request h =
+request_least : (network : DeclaredNetwork) (n : ℕ) (line : List ℕ) (request : Request)
+    → request_in network n (words_of line) ≡ Ok request → HasLeastPath network.topology line request
+request_least network n line request h =
     by (bytes_eq (word (words_of line) 0) (codes "admit")) (bytes_eq (word (words_of line) 0) (codes "withdraw")) h
   where
     by : (admits withdraws : Bool)
-        → cond admits (admit_line topology n (words_of line))
+        → cond admits (admit_line network n (words_of line))
         (cond withdraws (withdraw_line n (words_of line)) (Err (BadLine n))) ≡ Ok request
-        → HasLeastPath topology line request
-    by true withdraws h = admit_least topology n line request h
-    by false true h = withdraw_least topology n line request h
+        → HasLeastPath network.topology line request
+    by true withdraws h = admit_least network n line request h
+    by false true h = withdraw_least network.topology n line request h
     by false false h = cc h
 
-asked_in_least : (topology : DeclaredTopology) (before n : ℕ) (line : List ℕ) (request : Request)
-    → asked_in topology before n (words_of line) ≡ Ok request → HasLeastPath topology line request
-asked_in_least topology before n line request h =
-    let one = both (request_in topology n (words_of line)) _ request h in
+asked_in_least : (network : DeclaredNetwork) (before n : ℕ) (line : List ℕ) (request : Request)
+    → asked_in network before n (words_of line) ≡ Ok request → HasLeastPath network.topology line request
+asked_in_least network before n line request h =
+    let one = both (request_in network n (words_of line)) _ request h in
     let same : one.first ≡ request = passed (nat_lt before 10000) (Limit n) one.first request one.then in
-    subst (λ (r : Request). HasLeastPath topology line r) same (request_least topology n line one.first one.is)
+    subst (λ (r : Request). HasLeastPath network.topology line r) same (request_least network n line one.first one.is)
 
 -- lines make further requests, one for each that asks something
-record AreBehind (topology : DeclaredTopology) (requests : List Request) (lines : List (List ℕ)) (all : List Request)
+record AreBehind (network : DeclaredNetwork) (requests : List Request) (lines : List (List ℕ)) (all : List Request)
     : Type 0 where
   more : List Request
   joined : all ≡ requests ++ more
-  each : AllZip (HasLeastPath topology) (asking lines) more
+  each : AllZip (HasLeastPath network.topology) (asking lines) more
 
 -- by the answer on the first of them
-line_behind : (topology : DeclaredTopology) (requests : List Request) (n : ℕ) (line : List ℕ) (lines : List (List ℕ))
+line_behind : (network : DeclaredNetwork) (requests : List Request) (n : ℕ) (line : List ℕ) (lines : List (List ℕ))
     (all : List Request) (skipped : Bool) → is_skipped line ≡ skipped
-    → (r : Result Request RequestFault) → asked_in topology (length requests) n (words_of line) ≡ r
-    → ((before : List Request) → requests_from topology before (n + 1) lines ≡ Ok all
-    → AreBehind topology before lines all)
+    → (r : Result Request RequestFault) → asked_in network (length requests) n (words_of line) ≡ r
+    → ((before : List Request) → requests_from network before (n + 1) lines ≡ Ok all
+    → AreBehind network before lines all)
     → ((cond skipped (Ok requests) (r >>= λ request. Ok (requests ++ request ∷ [])))
-    >>= λ more. requests_from topology more (n + 1) lines) ≡ Ok all
-    → AreBehind topology requests (line ∷ lines) all
-line_behind topology requests n line lines all true skip r is next h =
+    >>= λ more. requests_from network more (n + 1) lines) ≡ Ok all
+    → AreBehind network requests (line ∷ lines) all
+line_behind network requests n line lines all true skip r is next h =
     let rest = next requests h in
     record {
       more = rest.more;
       joined = rest.joined;
-      each = subst (λ (b : Bool). AllZip (HasLeastPath topology)
+      each = subst (λ (b : Bool). AllZip (HasLeastPath network.topology)
           (let ls : List (List ℕ) = cond (not b) (line ∷ asking lines) (asking lines) in ls) rest.more) (sym skip)
           rest.each;
     }
-line_behind topology requests n line lines all false asks (Err fault) is next h = cc h
-line_behind topology requests n line lines all false asks (Ok request) is next h =
+line_behind network requests n line lines all false asks (Err fault) is next h = cc h
+line_behind network requests n line lines all false asks (Ok request) is next h =
     let rest = next (requests ++ request ∷ []) h in
     record {
       more = request ∷ rest.more;
       joined = rest.joined ∙ append_assoc requests (request ∷ []) rest.more;
-      each = subst (λ (b : Bool). AllZip (HasLeastPath topology)
+      each = subst (λ (b : Bool). AllZip (HasLeastPath network.topology)
           (let ls : List (List ℕ) = cond (not b) (line ∷ asking lines) (asking lines) in ls) (request ∷ rest.more))
-          (sym asks) (asked_in_least topology (length requests) n line request is, rest.each);
+          (sym asks) (asked_in_least network (length requests) n line request is, rest.each);
     }
 
-behind : (topology : DeclaredTopology) (requests : List Request) (n : ℕ) (lines : List (List ℕ)) (all : List Request)
-    → requests_from topology requests n lines ≡ Ok all → AreBehind topology requests lines all
-behind topology requests n [] all h =
+behind : (network : DeclaredNetwork) (requests : List Request) (n : ℕ) (lines : List (List ℕ)) (all : List Request)
+    → requests_from network requests n lines ≡ Ok all → AreBehind network requests lines all
+behind network requests n [] all h =
     let same : requests ≡ all = cc h in
     record { more = []; joined = sym same ∙ sym (append-nil requests); each = tt }
-behind topology requests n (line ∷ lines) all h =
-    line_behind topology requests n line lines all (is_skipped line) refl
-    (asked_in topology (length requests) n (words_of line)) refl
-    (λ before known. behind topology before (n + 1) lines all known) h
+behind network requests n (line ∷ lines) all h =
+    line_behind network requests n line lines all (is_skipped line) refl
+    (asked_in network (length requests) n (words_of line)) refl
+    (λ before known. behind network before (n + 1) lines all known) h
 
 pub requests_go_least_ways : RequestsGoLeastWays
 requests_go_least_ways = record {
   path = λ topology n words path. (least_found topology n words path, least_goes topology n words path);
-  each = λ topology text requests h.
-      let all = behind topology [] 1 (lines_of text) requests h in
-      subst (λ (rs : List Request). AllZip (HasLeastPath topology) (asking (lines_of text)) rs) (sym all.joined)
+  each = λ network text requests h.
+      let all = behind network [] 1 (lines_of text) requests h in
+      subst (λ (rs : List Request). AllZip (HasLeastPath network.topology) (asking (lines_of text)) rs) (sym all.joined)
       all.each;
 }

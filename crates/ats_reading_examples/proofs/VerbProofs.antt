@@ -2,7 +2,7 @@ use Rattle.std.proofs.Common.{◌≡◌, ◌∙◌, ℕ, Bool, true, false, cond
 use Rattle.std.specs.Prelude.{◌==◌, codes, length}
 use Rattle.std.specs.Str.{bytes_eq}
 use Rattle.ats_facts.proofs.Bytes.{bytes_eq-true}
-use Rattle.ats_topology.specs.Topology.{DeclaredTopology}
+use Rattle.ats_network.specs.Network.{DeclaredNetwork}
 use Rattle.ats_streams.specs.Stream.{DeclaredStream}
 use Rattle.ats_requests.specs.declared.request.Request.{Request}
 use Rattle.ats_requests.specs.declared.request.Request.TheVariants.{Withdraw}
@@ -21,12 +21,13 @@ asks_stream : (class : Option ℕ) (stream : DeclaredStream) → codes "admit" �
 asks_stream None stream = refl
 asks_stream (Some class) stream = refl
 
-admit_verb : (topology : DeclaredTopology) (n : ℕ) (words : List (List ℕ)) (request : Request)
-    → admit_line topology n words ≡ Ok request → codes "admit" ≡ verb_of request
-admit_verb topology n words request h =
+admit_verb : (network : DeclaredNetwork) (n : ℕ) (words : List (List ℕ)) (request : Request)
+    → admit_line network n words ≡ Ok request → codes "admit" ≡ verb_of request
+admit_verb network n words request h =
     let said = both (admit_in n words) _ request h in
-    let path = both (path_in topology n words) _ request said.then in
-    let stream = both (stream_made n said.first (stream_over path.first said.first)) _ request path.then in
+    let path = both (path_in network.topology n words) _ request said.then in
+    let stream = both (stream_made network.most_ports n said.first
+    (stream_over path.first said.first)) _ request path.then in
     asks_stream said.first.class stream.first
     ∙ ap verb_of (same_value {F = RequestFault} (asked said.first.class stream.first) request stream.then)
 
@@ -37,15 +38,15 @@ withdraw_verb n words request h =
     ap verb_of (passed (length words == 2) (BadLine n) (Withdraw name.first) request name.then)
 
 pub verbs_are_two : VerbsAreTwo
-verbs_are_two topology n words request h =
+verbs_are_two network n words request h =
     by (bytes_eq (word words 0) (codes "admit")) (bytes_eq (word words 0) (codes "withdraw")) refl refl h
   where
     by : (admits withdraws : Bool) → bytes_eq (word words 0) (codes "admit") ≡ admits
         → bytes_eq (word words 0) (codes "withdraw") ≡ withdraws
-        → cond admits (admit_line topology n words) (cond withdraws (withdraw_line n words) (Err (BadLine n)))
+        → cond admits (admit_line network n words) (cond withdraws (withdraw_line n words) (Err (BadLine n)))
         ≡ Ok request → word words 0 ≡ verb_of request
     by true withdraws is is_not h =
-        bytes_eq-true (word words 0) (codes "admit") is ∙ admit_verb topology n words request h
+        bytes_eq-true (word words 0) (codes "admit") is ∙ admit_verb network n words request h
     by false true is_not is h =
         bytes_eq-true (word words 0) (codes "withdraw") is ∙ withdraw_verb n words request h
     by false false is_not none h = cc h

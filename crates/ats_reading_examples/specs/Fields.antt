@@ -110,7 +110,7 @@ request_words = codes "admit" ∷ codes "c" ∷ codes "s1" ∷ codes "s2" ∷ co
     ∷ codes "64" ∷ codes "65" ∷ codes "1000000" ∷ []
 
 abbrev pub request_with : ℕ → List ℕ → Result Request RequestFault
-request_with k text = request_in line_and_flow.topology 1 (with_field request_words k text)
+request_with k text = request_in line_and_flow 1 (with_field request_words k text)
 
 abbrev pub request_numbers : List ℕ
 request_numbers = 4 ∷ 5 ∷ 6 ∷ 7 ∷ 8 ∷ 9 ∷ []
@@ -129,7 +129,7 @@ pub record NumbersAreExact : Type 0 where
   pub residence_zeros : shape_of (codes "residence 00\n") ≡ Err (line.BadLine 1)
   pub frame_time_zero : behind_stream (codes "frame 00 a 64\n") ≡ Err (line.BadLine 3)
   pub frame_octets_zero : behind_stream (codes "frame 0 a 064\n") ≡ Err (line.BadLine 3)
-  pub request_right : request_in line_and_flow.topology 1 request_words
+  pub request_right : request_in line_and_flow 1 request_words
       ≡ Ok (Admit (declared_stream (codes "c") (0 ∷ 2 ∷ []) (7 ∷ 7 ∷ []) 10000000 680 64 65 1000000 None))
   pub request_zero : map (λ k. request_with k (48 ∷ word request_words k)) request_numbers
       ≡ replicate 6 (Err (ask.BadLine 1))

@@ -145,27 +145,29 @@ abbrev pub of_bridges : List Key
 of_bridges = key.ResidenceNs ∷ key.ProcessingNs ∷ key.ProcessingMinNs ∷ key.ProcessingMaxNs ∷ []
 
 abbrev pub of_the_top : List Key
-of_the_top = key.Format ∷ key.Station ∷ key.Bridge ∷ key.Link ∷ key.Stream ∷ key.Flow ∷ []
+of_the_top = key.Format ∷ key.Station ∷ key.Bridge ∷ key.Link ∷ key.Stream ∷ key.LinkLocal ∷ key.Flow
+    ∷ key.LinkLocalFlow ∷ []
 
 -- each key of the other tables is unknown to a table
 pub record OthersAreUnknown : Type 0 where
   pub station : map (λ k. station_with (key_text k)) (of_senders ++ of_links ++ of_bridges ++ of_the_top)
-      ≡ unknown table.Station 27
+      ≡ unknown table.Station 29
   pub bridge : map (λ k. bridge_with (key_text k)) (key.ProcessingNs ∷ of_senders ++ of_links ++ of_the_top)
-      ≡ unknown table.Bridge 24
+      ≡ unknown table.Bridge 26
   pub plain_bridge : map (λ k. plain_bridge_with (key_text k))
       (key.ProcessingMinNs ∷ key.ProcessingMaxNs ∷ of_senders ++ of_links ++ of_the_top)
-      ≡ unknown table.Bridge 25
+      ≡ unknown table.Bridge 27
   pub link : map (λ k. link_with (key_text k)) (key.Name ∷ of_senders ++ of_bridges ++ of_the_top)
-      ≡ unknown table.Link 24
+      ≡ unknown table.Link 26
   pub flow : map (λ k. flow_with (key_text k)) (key.Paths ∷ of_streams ++ of_links ++ of_bridges ++ of_the_top)
-      ≡ unknown table.Flow 23
+      ≡ unknown table.Flow 25
   pub stream : map (λ k. stream_with (key_text k)) (key.Paths ∷ of_links ++ of_bridges ++ of_the_top)
-      ≡ unknown table.Stream 15
+      ≡ unknown table.Stream 17
   pub stream_of_three : map (λ k. stream_of_three (key_text k)) (of_links ++ of_bridges ++ of_the_top)
-      ≡ unknown table.Stream 14
-  pub top : map (λ k. top_with (key_text k)) (key.Name ∷ of_senders ++ of_links ++ of_bridges)
-      ≡ replicate 22 (Err (Unknown table.Top 0))
+      ≡ unknown table.Stream 16
+  pub top : map (λ k. top_with (key_text k))
+      (key.Name ∷ key.LinkLocal ∷ key.LinkLocalFlow ∷ of_senders ++ of_links ++ of_bridges)
+      ≡ replicate 24 (Err (Unknown table.Top 0))
 
 pub record KeysAreExact : Type 0 where
   pub nearly : NearlyAreUnknown

@@ -7,7 +7,7 @@ use Rattle.ats_shape.specs.declared.fault.ShapeFault.{ShapeFault}
 use Rattle.ats_shape.specs.declared.fault.ShapeFault.TheVariants as line
 use Rattle.ats_streams.specs.declared.fault.StreamFault.{StreamFault}
 use Rattle.ats_streams.specs.declared.fault.StreamFault.TheVariants as rule
-use Rattle.ats_topology.specs.Topology.{DeclaredTopology}
+use Rattle.ats_network.specs.Network.{DeclaredNetwork}
 use Rattle.ats_requests.specs.declared.request.Request.{Request}
 use Rattle.ats_requests.specs.declared.request.Request.TheVariants.{Admit, Lowest, Withdraw}
 use Rattle.ats_words.specs.Words.{word}
@@ -25,7 +25,7 @@ pub record CommentsAreAny : Type 0 where
   pub shape : shape_of (codes "#\n#a\n##\n#residence 5\nresidence 1000\n#stream\n#")
       ≡ Ok (record { residence_ns = 1000; streams = []; frames = [] })
   pub counted : shape_of (codes "#\n#a\n##\nresidence 1000\n#b\nx\n") ≡ Err (line.BadLine 6)
-  pub requests : requests_of line_and_flow.topology (codes "#\n#a\n##\n#withdraw b\nwithdraw a\n#")
+  pub requests : requests_of line_and_flow (codes "#\n#a\n##\n#withdraw b\nwithdraw a\n#")
       ≡ Ok (Withdraw (codes "a") ∷ [])
 
 -- all bytes but the space and LF, and some of them twice
@@ -115,8 +115,8 @@ verb_of (Withdraw name) = codes "withdraw"
 -- a line asks something only where it begins so, whatever its other words are. Refuses any first word in front of the
 -- nine that `admit` takes
 abbrev pub VerbsAreTwo : Type 0
-VerbsAreTwo = (topology : DeclaredTopology) (n : ℕ) (words : List (List ℕ)) (request : Request)
-    → request_in topology n words ≡ Ok request → word words 0 ≡ verb_of request
+VerbsAreTwo = (network : DeclaredNetwork) (n : ℕ) (words : List (List ℕ)) (request : Request)
+    → request_in network n words ≡ Ok request → word words 0 ≡ verb_of request
 
 pub record LinesAreRead : Type 0 where
   pub comments : CommentsAreAny

@@ -2,6 +2,7 @@ use Rattle.std.specs.Prelude.{◌≡◌, ◌≢◌, ◌↔◌, ℕ, List, Some, 
 use Rattle.std.specs.List.{AllZip}
 use Rattle.ats_io.specs.Text.{lines_of, words_of}
 use Rattle.ats_topology.specs.Topology.{DeclaredTopology, station_named}
+use Rattle.ats_network.specs.Network.{DeclaredNetwork}
 use Rattle.ats_network.specs.Shortest.{shortest_of}
 use Rattle.ats_requests.specs.declared.request.Request.{Request}
 use Rattle.ats_requests.specs.declared.request.Request.TheVariants.{Admit, Lowest, Withdraw}
@@ -33,6 +34,6 @@ HasLeastPath topology line (Withdraw name) = Unit {0}
 pub record RequestsGoLeastWays : Type 0 where
   pub path : (topology : DeclaredTopology) (n : ℕ) (words : List (List ℕ)) (path : List ℕ)
       → path_in topology n words ≡ Ok path ↔ IsLeastBetween topology (word words 2) (word words 3) path
-  pub each : (topology : DeclaredTopology) (text : List ℕ) (requests : List Request)
-      → requests_of topology text ≡ Ok requests
-      → AllZip (HasLeastPath topology) (asking (lines_of text)) requests
+  pub each : (network : DeclaredNetwork) (text : List ℕ) (requests : List Request)
+      → requests_of network text ≡ Ok requests
+      → AllZip (HasLeastPath network.topology) (asking (lines_of text)) requests

@@ -1,6 +1,6 @@
 -- A stream that goes from a station to two others.
 use Rattle.std.proofs.Common.{◌≡◌, ◌≢◌, ℕ, zero, suc, ◌+◌, ◌<◌, List, [], ◌∷◌, get_or, sym, ◌∙◌, subst, arith}
-use Rattle.std.proofs.Common.{lit<, lit≤}
+use Rattle.std.proofs.Common.{lit<, refl}
 use Rattle.std.specs.List.{All, AllPairs}
 use Rattle.std.proofs.lemmas.List.Elements.{All-cons, All-nil}
 use Rattle.std.proofs.lemmas.List.Kept.{AllPairs-cons}
@@ -15,7 +15,7 @@ use Rattle.ats_session_tests.specs.Forks.{fork, fork_ports}
 are_branches : AreBranches fork_ports fork
 are_branches = record {
   places = (lit< tt, lit< tt, tt);
-  begin = (record { earlier = lit< tt; later = lit≤ tt; within = lit< tt }, tt);
+  begin = (record { earlier = lit< tt; at_talker = λ h. refl; within = lit< tt }, tt);
   few = omega arith;
 }
 
@@ -41,7 +41,6 @@ module _
       record { within = other.walk.1.0.within; from = other.walk.1.0.from ∙ sym one.walk.1.0.from },
       other.walk.1.1,
     );
-    ends = other.ends;
   }
   each (suc n) within = absurd (omega arith)
 

@@ -40,7 +40,7 @@ fn stream(
     burst_bits: u64,
     max_octets: u64,
 ) -> Stream
-    ensures { MayEnter session.now.topology result }
+    ensures { MayEnter session.now result }
 {
     let stream = Stream::new(
         rt.alloc(),
@@ -57,19 +57,20 @@ fn stream(
     )
     .expect(rt, "a stream");
     assert!(rt; session.network().valid_path(stream.ports()));
+    assert!(rt; stream.has_short_routes(session.network().most_ports()));
     stream
 }
 
 // A stream of 100 Mb/s with frames of up to 1522 octets.
 fn large(rt: &(impl Abort + AllocGlobal), session: &Session, name: &[u8], class: u64) -> Stream
-    ensures { MayEnter session.now.topology result }
+    ensures { MayEnter session.now result }
 {
     stream(rt, session, name, class, 100_000_000, 12336, 1522)
 }
 
 // A stream of 10 Mb/s with frames of 64 octets.
 fn small(rt: &(impl Abort + AllocGlobal), session: &Session, name: &[u8], class: u64) -> Stream
-    ensures { MayEnter session.now.topology result }
+    ensures { MayEnter session.now result }
 {
     stream(rt, session, name, class, 10_000_000, 672, 64)
 }
@@ -89,7 +90,7 @@ fn admitted(
     stream: Stream,
     class: u8,
 ) -> Answer
-    requires { MayEnter session.old.topology stream }
+    requires { MayEnter session.old stream }
 {
     match session.admit(stream) {
         Ok(sum) => answer(rt, Ok((class, sum))),

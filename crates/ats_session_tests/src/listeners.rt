@@ -105,6 +105,7 @@ fn push(rt: &(impl Abort + AllocGlobal), network: &mut Network) {
     assert!(rt; network.valid_path(&[0, 2]));
     assert!(rt; network.valid_path(&[0, 4]));
     assert!(rt; part(network, 2, 4));
+    assert!(rt; stream.has_short_routes(network.most_ports()));
     network.push_stream(stream).expect(rt, "a stream more");
 }
 

@@ -69,11 +69,9 @@ schedules : (over : DeclaredNetwork) → IsTaken 33554432 (releases_of over) sch
 unfolding releases_in
 schedules over = taken_by 33554432 (releases_of over) schedule.fault_text (releases_in over) (λ file bytes. refl)
 
-requested : (topology : DeclaredTopology)
-    → IsTaken 16777216 (requests_of topology) requests.fault_text (requests_in topology)
+requested : (over : DeclaredNetwork) → IsTaken 16777216 (requests_of over) requests.fault_text (requests_in over)
 unfolding requests_in
-requested topology =
-    taken_by 16777216 (requests_of topology) requests.fault_text (requests_in topology) (λ file bytes. refl)
+requested over = taken_by 16777216 (requests_of over) requests.fault_text (requests_in over) (λ file bytes. refl)
 
 same_fault : {A : Type 0} (a b : CaptureFault) → ◌≡◌ {A = Result A CaptureFault} (Err a) (Err b) → a ≡ b
 same_fault a b h = cc

@@ -21,8 +21,8 @@ requests =
 
 -- each word stands in its place. Faults are told by their lines, those with a comment as well
 pub record RequestsAreRead : Type 0 where
-  pub read : requests_of way.topology request_file ≡ Ok requests
-  pub unknown : requests_of way.topology (request_file ++ codes "admit r s1 s3 3 40000021 9022 72 1102 500023\n")
+  pub read : requests_of way request_file ≡ Ok requests
+  pub unknown : requests_of way (request_file ++ codes "admit r s1 s3 3 40000021 9022 72 1102 500023\n")
       ≡ Err (UnknownNode 5)
-  pub short : requests_of way.topology (request_file ++ codes "admit r s1 s2 3 40000021 9022 72 1102\n")
+  pub short : requests_of way (request_file ++ codes "admit r s1 s2 3 40000021 9022 72 1102\n")
       ≡ Err (BadLine 5)

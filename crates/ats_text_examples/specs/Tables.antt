@@ -3,6 +3,8 @@ use Rattle.std.specs.Str.{is_utf8}
 use Rattle.toml.specs.Data.{Data, Members, string, integer, array, table, no_items, item, no_members, member}
 use Rattle.toml.specs.Parse.{parse_document}
 use Rattle.ats_network_table.specs.declared.fault.DocumentFault.TheVariants.{NotToml}
+use Rattle.ats_network_table.specs.declared.format.Format.{Format}
+use Rattle.ats_network_table.specs.declared.format.Format.TheVariants.{One, Two}
 use Rattle.ats_network_toml.specs.Document.{DeclaredDocument, path, ends}
 use Rattle.ats_network_toml.specs.Reading.{document_in, document_of}
 
@@ -91,10 +93,11 @@ abbrev pub file_of_one : Members
 file_of_one = file_with 1 (tables (plain_bridge_table (codes "b1") 1001 50001)
     (plain_bridge_table (codes "b2") 1302 50302))
 
--- the document with these least processing times of the two bridges. An address is one number of six bytes, and a
--- deadline that is not given is a second
-abbrev pub document_with : ℕ → ℕ → DeclaredDocument
-document_with first second = record {
+-- the document of a format with these least processing times of the two bridges. An address is one number of six
+-- bytes, and a deadline that is not given is a second
+abbrev pub document_with : Format → ℕ → ℕ → DeclaredDocument
+document_with format first second = record {
+  format = format;
   stations = record { name = codes "s1" } ∷ record { name = codes "s2" } ∷ [];
   bridges =
       record { name = codes "b1"; processing_min_ns = first; processing_max_ns = 1001; residence_ns = 50001 }
@@ -125,9 +128,11 @@ document_with first second = record {
         deadline_ns = 1000000000;
         identity = None;
       } ∷ [];
+  link_locals = [];
   flows =
       record { name = codes "f"; route = path (codes "s1" ∷ codes "b2" ∷ []); max_octets = 901 }
       ∷ record { name = codes "g"; route = ends (codes "b2") (codes "s2"); max_octets = 902 } ∷ [];
+  link_local_flows = [];
 }
 
 -- a text declares what its tables do, which are those that TOML reads in it; else it is no TOML
@@ -140,5 +145,5 @@ pub record IsParsed (bytes : List ℕ) : Type 0 where
 -- each entry stands there, in its order, each value under its key. In format 1 the least processing is the greatest
 pub record TablesAreRead : Type 0 where
   pub parsed : (bytes : List ℕ) → IsParsed bytes
-  pub in_two : document_in file_of_two ≡ Ok (document_with 211 312)
-  pub in_one : document_in file_of_one ≡ Ok (document_with 1001 1302)
+  pub in_two : document_in file_of_two ≡ Ok (document_with Two 211 312)
+  pub in_one : document_in file_of_one ≡ Ok (document_with One 1001 1302)

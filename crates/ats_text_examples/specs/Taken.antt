@@ -79,8 +79,8 @@ pub record FilesAreTaken : Type 0 where
       → IsTaken 16777216 (rows_of topology) certificate.fault_text (rows_in topology)
   pub schedules : (over : DeclaredNetwork)
       → IsTaken 33554432 (releases_of over) schedule.fault_text (releases_in over)
-  pub requested : (topology : DeclaredTopology)
-      → IsTaken 16777216 (requests_of topology) requests.fault_text (requests_in topology)
+  pub requested : (over : DeclaredNetwork)
+      → IsTaken 16777216 (requests_of over) requests.fault_text (requests_in over)
   pub captures : (file bytes : List ℕ) → CaptureIsTaken file bytes
   pub traffics : (over : DeclaredNetwork) (station : ℕ) (file bytes : List ℕ) (records : List Record)
       → TrafficIsTaken over station file bytes records

@@ -8,7 +8,7 @@ use Rattle.ats_bound.specs.First.{IsFirstReason}
 use Rattle.ats_bound.proofs.FirstReason.{each_reason_is_the_first, first_reason_is_one}
 use Rattle.ats_bound.proofs.NoneHolds.{reason_leaves_none}
 use Rattle.ats_checker.specs.declared.refusal.Refusal.TheVariants.{Network}
-use Rattle.ats_examples.proofs.NetworkTest.{network_by}
+use Rattle.ats_examples.proofs.NetworkTest.{long_network_by}
 use Rattle.ats_tree_examples.specs.Networks.{split_links, split_nodes}
 use Rattle.ats_tree_examples.specs.Bounds.{HasReason, rows_by_class}
 use Rattle.ats_tree_bound_examples.specs.Explained.{TotalsAreOfEach, by_class_within}
@@ -17,7 +17,7 @@ use Rattle.ats_tree_bound_examples.proofs.RefusalProofs.{refused}
 -- Totals by computation, and what the laws say of reasons and refusals.
 
 within_is : IsNetwork (by_class_within 50000)
-within_is = network_by (split_nodes 100000) split_links (by_class_within 50000).streams [] refl refl
+within_is = long_network_by (split_nodes 100000) split_links (by_class_within 50000).streams [] refl refl
 
 abbrev of_first : Reason
 of_first = Deadline (codes "a") (Some (codes "s3")) 51344000

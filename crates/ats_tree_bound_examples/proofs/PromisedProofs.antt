@@ -1,19 +1,23 @@
 use Rattle.std.proofs.Common.{ℕ, ◌≤◌, List, [], ◌∷◌, length, get_or, All, refl, arith, lit<}
 use Rattle.std.specs.Prelude.{nat_lt}
 use Rattle.std.proofs.lemmas.List.Elements.{All-contains_itself}
+use Rattle.ats_network.specs.Sender.{stream_sender}
 use Rattle.ats_network.specs.Senders.{sender_at}
+use Rattle.ats_group.specs.Judge.{ats_judge, bucket_rule}
 use Rattle.ats_certificate.specs.declared.row.Row.{Row}
 use Rattle.ats_trace.specs.Journey.{Travel, IsOfStream}
 use Rattle.ats_trace.specs.Run.{IsLegal, releases_of}
 use Rattle.ats_trace.specs.Stored.{travel_at}
 use Rattle.ats_trace.specs.Talker.{talker_of, KeepsBuckets}
-use Rattle.ats_soundness_law.specs.Sound.{IsContained, IsSound}
+use Rattle.ats_trace.specs.Ways.{route_to}
+use Rattle.ats_soundness_law.specs.Sound.{IsContained, IsSound, all_but_first}
 use Rattle.ats_checker.specs.InTime.{ArrivesInTime, FramesAreInTime}
 use Rattle.ats_examples.specs.Babbler.{babbler}
 use Rattle.ats_examples.specs.Networks.{fork}
 use Rattle.ats_examples.proofs.BucketTest.{keeps_by}
 use Rattle.ats_examples.proofs.LegalProofs.{babbler_legal}
 use Rattle.ats_examples.proofs.PartTest.{legal_by}
+use Rattle.ats_examples.proofs.StationTest.{bridges_by, from_stations}
 use Rattle.ats_examples.proofs.Tests.{lt_of, all_by}
 use Rattle.ats_tree_examples.specs.Networks.{crossed, split, tree_within}
 use Rattle.ats_tree_examples.specs.Runs.{crossed_babbler, one_split, over_tree}
@@ -34,12 +38,15 @@ over_three : (deadline_ns : ℕ) (rows : List Row) → IsLegal (tree_within dead
     → KeepsBuckets (tree_within deadline_ns) (releases_of (over_tree ∷ [])) (talker_of (tree_within deadline_ns) 0)
     → FramesAreInTime (tree_within deadline_ns) rows → ArrivesInTime rows (tree_stream deadline_ns) over_tree
 over_three deadline_ns rows legal keeps all =
-    all (over_tree ∷ []) legal over_tree (0, lit< tt, refl) (tree_stream deadline_ns) refl keeps
+    λ m within. all (over_tree ∷ []) legal over_tree (0, lit< tt, refl) (tree_stream deadline_ns) refl keeps m within
+    (bridges_by bucket_rule (tree_within deadline_ns) (releases_of (over_tree ∷ []))
+    (route_to (stream_sender (tree_stream deadline_ns)) m) refl)
 
 over_one : (rows : List Row) → FramesAreInTime split rows
     → ArrivesInTime rows (stream_over_split 1000000) (travel_at one_split 0)
-over_one rows all = all one_split copies_are_legal.one (travel_at one_split 0) (0, lit< tt, refl)
-    (stream_over_split 1000000) refl split_kept
+over_one rows all m within = all one_split copies_are_legal.one (travel_at one_split 0) (0, lit< tt, refl)
+    (stream_over_split 1000000) refl split_kept m within (bridges_by bucket_rule split (releases_of one_split)
+    (route_to (stream_sender (stream_over_split 1000000)) m) refl)
 
 short_over_one : ¬ ArrivesInTime short_split_rows (stream_over_split 1000000) (travel_at one_split 0)
 short_over_one all =
@@ -63,16 +70,19 @@ of_streams = all_by (IsOfStream crossed) (λ (j : Travel). nat_lt j.release.send
 
 contained : (rows : List Row) → IsSound crossed rows
     → All (λ (j : Travel). IsContained rows (sender_at crossed j.release.sender) j) crossed_babbler
-contained rows sound k d h = sound.contained crossed_babbler copies_are_legal.babbled (get_or crossed_babbler k d)
-    (All-contains_itself crossed_babbler k d h) (of_streams k d h)
+contained rows sound k d h = (from_stations bucket_rule ats_judge crossed rows refl sound).contained crossed_babbler
+    copies_are_legal.babbled (get_or crossed_babbler k d) (All-contains_itself crossed_babbler k d h) (of_streams k d h)
 
 pub sound_is_for_each : SoundIsForEach
 sound_is_for_each = record {
   not_served = λ all. each_listener_counts.over_one.not_served
-      (all one_split copies_are_legal.one (travel_at one_split 0) (0, lit< tt, refl) (lit< tt) split_kept);
+      (λ m within. all one_split copies_are_legal.one (travel_at one_split 0) (0, lit< tt, refl) (lit< tt) split_kept
+      m within (bridges_by bucket_rule split (releases_of one_split) (route_to (sender_at split 0) m) refl));
   not_contained = λ all. each_listener_counts.over_one.not_contained
-      (all one_split copies_are_legal.one (travel_at one_split 0) (0, lit< tt, refl) (lit< tt));
-  served = λ rows sound. sound.served babbler babbler_legal (travel_at babbler 0) (0, lit< tt, refl) (lit< tt)
+      (λ m within. all one_split copies_are_legal.one (travel_at one_split 0) (0, lit< tt, refl) (lit< tt) m within
+      (bridges_by bucket_rule split (releases_of one_split) (all_but_first (route_to (sender_at split 0) m)) refl));
+  served = λ rows sound. (from_stations bucket_rule ats_judge fork rows refl sound).served babbler babbler_legal
+      (travel_at babbler 0) (0, lit< tt, refl) (lit< tt)
       (keeps_by fork (releases_of babbler) (talker_of fork 0) refl refl);
   contained = contained;
 }

@@ -12,7 +12,7 @@ use Rattle.ats_checker.specs.declared.refusal.Refusal.TheVariants.{RowMissing, F
 use Rattle.ats_checker.proofs.FirstRefusal.{each_refusal_is_the_first}
 use Rattle.ats_checker.proofs.Refused.{refused_unless_holding}
 use Rattle.ats_examples.specs.Rows.{line_rows}
-use Rattle.ats_examples.proofs.NetworkTest.{apart_by, network_passes, network_by}
+use Rattle.ats_examples.proofs.NetworkTest.{apart_by, network_passes, long_network_by}
 use Rattle.ats_examples.proofs.RuleTest.{is_before, before_by}
 use Rattle.ats_examples.proofs.Tests.{pairs_pass, pairs_by}
 use Rattle.ats_tree_examples.specs.Networks.{split, tree, tree_links, tree_nodes, tree_within, turned_within}
@@ -26,11 +26,11 @@ use Rattle.ats_tree_bound_examples.specs.Refusals.{rows_of_two_bursts, rows_with
 
 pub within_is : (deadline_ns : ℕ) → network_passes (tree_within deadline_ns) ≡ true
     → IsNetwork (tree_within deadline_ns)
-within_is deadline_ns = network_by (tree_nodes 1000000) tree_links (tree_within deadline_ns).streams [] refl
+within_is deadline_ns = long_network_by (tree_nodes 1000000) tree_links (tree_within deadline_ns).streams [] refl
 
 turned_is : (deadline_ns : ℕ) → network_passes (turned_within deadline_ns) ≡ true
     → IsNetwork (turned_within deadline_ns)
-turned_is deadline_ns = network_by (tree_nodes 1000000) tree_links (turned_within deadline_ns).streams [] refl
+turned_is deadline_ns = long_network_by (tree_nodes 1000000) tree_links (turned_within deadline_ns).streams [] refl
 
 -- a number by which refusals are told apart: that of a port, a right value, or the second code of a listener's name
 abbrev told : Option Refusal → ℕ

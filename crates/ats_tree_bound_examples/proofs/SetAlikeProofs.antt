@@ -6,10 +6,10 @@ use Rattle.ats_group.specs.Group.{Offer}
 use Rattle.ats_streams.specs.Branches.{no_branch}
 use Rattle.ats_network.specs.Network.{IsNetwork, senders_of}
 use Rattle.ats_network.specs.Sender.{Sender}
-use Rattle.ats_settings.specs.Before.{IsBefore}
+use Rattle.ats_settings.specs.Before.{IsFrom}
 use Rattle.ats_settings_law.specs.Laws.{AreSetAlike, IsKnown, IsNamed}
 use Rattle.ats_settings_law.proofs.Told.{groups_judge_alike, sizes_pass_alike}
-use Rattle.ats_examples.proofs.NetworkTest.{network_by}
+use Rattle.ats_examples.proofs.NetworkTest.{long_network_by}
 use Rattle.ats_tree_examples.specs.Networks.{split_and_flow, split_links, split_nodes, tree_branches}
 use Rattle.ats_tree_examples.proofs.TreeProofs.{split_and_flow_is}
 use Rattle.ats_tree_bound_examples.specs.SetAlike.{FramesGoOn, SetAlikeIsMet, TwoAreSetAlike, frame_of, frames}
@@ -20,7 +20,7 @@ use Rattle.ats_tree_bound_examples.proofs.SettingsProofs.{only}
 -- Two networks that are set alike, by computation, and what the laws say of them.
 
 renamed_is : IsNetwork renamed
-renamed_is = network_by (split_nodes 1000000) split_links renamed.streams renamed.flows refl refl
+renamed_is = long_network_by (split_nodes 1000000) split_links renamed.streams renamed.flows refl refl
 
 alike : AreSetAlike split_and_flow renamed settings_of_both
 alike = record {
@@ -93,40 +93,39 @@ elsewhere place not_first not_second not_third (suc zero) within = not_second
 elsewhere place not_first not_second not_third (suc (suc zero)) within = not_third
 elsewhere place not_first not_second not_third (suc (suc (suc n))) within = absurd (omega (arith, within))
 
-goes_on : (place before : ℕ) → 3 ≢ place → 4 ≢ place → 6 ≢ place → before ≡ place - 1
-    → IsBefore tree_branches place before
-goes_on place before not_first not_second not_third is =
-    inr (record { elsewhere = elsewhere place not_first not_second not_third; is = is })
+goes_on : (place : ℕ) → 3 ≢ place → 4 ≢ place → 6 ≢ place → IsFrom tree_branches place place
+goes_on place not_first not_second not_third =
+    inr (record { elsewhere = elsewhere place not_first not_second not_third; is = refl })
 
-on_trunk : IsBefore tree_branches 1 0
-on_trunk = goes_on 1 0 (λ same. absurd (omega (arith, same))) (λ same. absurd (omega (arith, same)))
-    (λ same. absurd (omega (arith, same))) refl
+on_trunk : IsFrom tree_branches 1 1
+on_trunk = goes_on 1 (λ same. absurd (omega (arith, same))) (λ same. absurd (omega (arith, same)))
+    (λ same. absurd (omega (arith, same)))
 
-on_branch : IsBefore tree_branches 5 4
-on_branch = goes_on 5 4 (λ same. absurd (omega (arith, same))) (λ same. absurd (omega (arith, same)))
-    (λ same. absurd (omega (arith, same))) refl
+on_branch : IsFrom tree_branches 5 5
+on_branch = goes_on 5 (λ same. absurd (omega (arith, same))) (λ same. absurd (omega (arith, same)))
+    (λ same. absurd (omega (arith, same)))
 
 hops : FramesGoOn
 hops = record {
   trunk = record {
     judged = record { exists = lit< tt; of_stream = lit≤ tt; later = lit≤ tt; within = lit< tt };
-    leaves = record { exists = lit< tt; later = lit≤ tt; within = lit< tt };
-    behind = on_trunk;
+    within = lit< tt;
+    from = on_trunk;
   };
   begins = record {
     judged = record { exists = lit< tt; of_stream = lit≤ tt; later = lit≤ tt; within = lit< tt };
-    leaves = record { exists = lit< tt; later = lit≤ tt; within = lit< tt };
-    behind = inl (record { branch = 1; exists = lit< tt; begins = refl; is = refl });
+    within = lit< tt;
+    from = inl (record { branch = 1; exists = lit< tt; begins = refl; is = refl });
   };
   on_branch = record {
     judged = record { exists = lit< tt; of_stream = lit≤ tt; later = lit≤ tt; within = lit< tt };
-    leaves = record { exists = lit< tt; later = lit≤ tt; within = lit< tt };
-    behind = on_branch;
+    within = lit< tt;
+    from = on_branch;
   };
   off_branch = record {
     judged = record { exists = lit< tt; of_stream = lit≤ tt; later = lit≤ tt; within = lit< tt };
-    leaves = record { exists = lit< tt; later = lit≤ tt; within = lit< tt };
-    behind = inl (record { branch = 2; exists = lit< tt; begins = refl; is = refl });
+    within = lit< tt;
+    from = inl (record { branch = 2; exists = lit< tt; begins = refl; is = refl });
   };
 }
 

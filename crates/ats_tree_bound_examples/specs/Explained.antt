@@ -2,7 +2,7 @@ use Rattle.std.specs.Prelude.{◌≡◌, ℕ, List, [], ◌∷◌, codes, Some, 
 use Rattle.ats_topology.specs.Topology.{topology_of}
 use Rattle.ats_topology.specs.declared.node.Node.{Node}
 use Rattle.ats_streams.specs.Stream.{branching_stream}
-use Rattle.ats_network.specs.Network.{DeclaredNetwork, declared_network}
+use Rattle.ats_network.specs.Network.{DeclaredNetwork, long_network}
 use Rattle.ats_tally.specs.declared.reason.Reason.TheVariants.{Deadline}
 use Rattle.ats_explain.specs.Totals.{over_count, totals_of}
 use Rattle.ats_explain.specs.declared.totals.Totals.{Totals}
@@ -21,7 +21,7 @@ staying_nodes second third =
     ∷ bridge (codes "b1") 1000000 ∷ bridge (codes "b2") second ∷ bridge (codes "b3") third ∷ []
 
 abbrev pub staying : ℕ → ℕ → DeclaredNetwork
-staying second third = declared_network (topology_of (staying_nodes second third) tree_links) tree.streams []
+staying second third = long_network (topology_of (staying_nodes second third) tree_links) tree.streams []
 
 -- frames may stay as long as they need, or 1 ns less at the third bridge, behind which are two listeners, or so at the
 -- second too, behind which are three. Each such hop counts once, and not for each listener behind it
@@ -33,7 +33,7 @@ pub record HopsCountOnce : Type 0 where
 
 -- the split whose copies have another class, with a stream beside, where both have this deadline
 abbrev pub by_class_within : ℕ → DeclaredNetwork
-by_class_within deadline_ns = declared_network split_by_class.topology
+by_class_within deadline_ns = long_network split_by_class.topology
     (split_stream (6 ∷ 6 ∷ 5 ∷ []) deadline_ns
     ∷ branching_stream (codes "z") (0 ∷ 4 ∷ []) [] (6 ∷ 5 ∷ []) 50000000 12336 64 1522 deadline_ns None
     ∷ [])

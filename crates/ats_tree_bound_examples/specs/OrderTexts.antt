@@ -1,6 +1,6 @@
 use Rattle.std.specs.Prelude.{ℕ, ◌+◌, List, [], ◌∷◌, ◌++◌, codes}
 use Rattle.ats_topology.specs.Topology.{topology_of}
-use Rattle.ats_network.specs.Network.{DeclaredNetwork, declared_network}
+use Rattle.ats_network.specs.Network.{DeclaredNetwork, long_network}
 use Rattle.ats_trace.specs.Journey.{Travel}
 use Rattle.ats_examples.specs.Runs.{hop, sunk}
 use Rattle.ats_tree_examples.specs.Networks.{branch, stream, tree_links, tree_nodes, turned}
@@ -11,12 +11,12 @@ use Rattle.ats_tree_examples.specs.Runs.{copied, copy}
 -- the tree with its listeners in the order s3, s2, s5 and s4, and behind its stream another one, from s5 to s4, which
 -- has number 1
 abbrev pub turned_and_stream : DeclaredNetwork
-turned_and_stream = declared_network turned.topology (turned.streams ++ stream (codes "z") (13 ∷ 10 ∷ []) [] ∷ []) []
+turned_and_stream = long_network turned.topology (turned.streams ++ stream (codes "z") (13 ∷ 10 ∷ []) [] ∷ []) []
 
 -- the tree with its listeners in the order s4, s5, s2 and s3: each branch begins on the trunk, in front of the one
 -- before it. Their first ports are 12, 4 and 6, and their order is neither that of these, nor of names, nor of nodes
 abbrev pub backward : DeclaredNetwork
-backward = declared_network (topology_of (tree_nodes 1000000) tree_links)
+backward = long_network (topology_of (tree_nodes 1000000) tree_links)
     (stream (codes "a") (0 ∷ 2 ∷ 8 ∷ 10 ∷ 12 ∷ 4 ∷ 6 ∷ []) (branch 4 0 3 ∷ branch 5 0 2 ∷ branch 6 0 1 ∷ []) ∷ []) []
 
 -- one frame over the turned tree, which each bridge sends on when it comes, but for the last listener's copy, which the

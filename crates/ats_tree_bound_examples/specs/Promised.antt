@@ -31,7 +31,7 @@ pub record FramesAreForEach : Type 0 where
 -- and each frame is contained, those of the babbler too, on its way to each listener
 pub record SoundIsForEach : Type 0 where
   pub not_served : ¬ AreServed ats_judge bucket_rule split short_split_rows
-  pub not_contained : ¬ AreContained ats_judge split short_split_rows
+  pub not_contained : ¬ AreContained ats_judge bucket_rule split short_split_rows
   pub served : (rows : List Row) → IsSound fork rows → IsServed rows (sender_at fork 0) (travel_at babbler 0)
   pub contained : (rows : List Row) → IsSound crossed rows
       → All (λ (j : Travel). IsContained rows (sender_at crossed j.release.sender) j) crossed_babbler

@@ -3,7 +3,7 @@ use Rattle.ats_streams.specs.Stream.{branching_stream}
 use Rattle.ats_streams.specs.Traffic.{is_declared_size}
 use Rattle.ats_group.specs.Group.{Offer}
 use Rattle.ats_group.specs.Judge.{ats_judge}
-use Rattle.ats_network.specs.Network.{DeclaredNetwork, declared_network, senders_of}
+use Rattle.ats_network.specs.Network.{DeclaredNetwork, long_network, senders_of}
 use Rattle.ats_trace.specs.Eligibility.{declared_by, residence_of_groups}
 use Rattle.ats_settings.specs.Laws.{GoesOnBy}
 use Rattle.ats_settings.specs.declared.setting.Setting.{Setting}
@@ -17,7 +17,7 @@ use Rattle.ats_tree_bound_examples.specs.Settings.{told_of}
 -- over the split a stream and a flow with other names than a and f; the stream has at least 100 octets, and a deadline
 -- of 0.5 ms
 abbrev pub renamed : DeclaredNetwork
-renamed = declared_network split_topology
+renamed = long_network split_topology
     (branching_stream (codes "b") (0 ∷ 2 ∷ 4 ∷ []) (branch 2 0 1 ∷ []) (6 ∷ 6 ∷ 6 ∷ []) 100000000 12336 100 1522 500000
     None
     ∷ [])

@@ -2,7 +2,7 @@ use Rattle.std.specs.Prelude.{◌≡◌, ℕ, List, [], ◌∷◌, ◌++◌, cod
 use Rattle.std.specs.List.{flat_map}
 use Rattle.std.specs.Option.{option_map}
 use Rattle.ats_topology.specs.Topology.{topology_of}
-use Rattle.ats_network.specs.Network.{DeclaredNetwork, declared_network}
+use Rattle.ats_network.specs.Network.{DeclaredNetwork, long_network}
 use Rattle.ats_tally.specs.declared.reason.Reason.TheVariants.{Deadline}
 use Rattle.ats_bound.specs.Reason.{reason_of}
 use Rattle.ats_checker.specs.Refusal.{refusal_of}
@@ -67,7 +67,7 @@ pub record BoundsAreWritten : Type 0 where
 
 -- the tree, where the stream has another class at each port
 abbrev pub tree_of_classes : DeclaredNetwork
-tree_of_classes = declared_network (topology_of (tree_nodes 1000000) tree_links)
+tree_of_classes = long_network (topology_of (tree_nodes 1000000) tree_links)
     (stream_of (codes "a") tree_ports tree_branches (1 ∷ 2 ∷ 3 ∷ 4 ∷ 5 ∷ 6 ∷ 7 ∷ []) 1000000 ∷ []) []
 
 abbrev pub shown : List ℕ

@@ -21,7 +21,7 @@ pub fn frames_are_for_each()
     ensures { FramesAreForEach }
 {}
 
-/// That rows are sound says of each frame whose own station keeps its buckets that it is served, and of each that it is
+/// That rows are sound says of each frame whose own talker keeps its buckets that it is served, and of each that it is
 /// contained, on its way to each listener.
 pub fn sound_is_for_each()
     ensures { SoundIsForEach }

@@ -12,7 +12,7 @@ use Rattle.ats_bound.specs.Reason.{reason_of}
 use Rattle.ats_bound.proofs.FirstReason.{each_reason_is_the_first, first_reason_is_one}
 use Rattle.ats_bound.proofs.NoneHolds.{reason_leaves_none}
 use Rattle.ats_examples.specs.Rows.{line_rows}
-use Rattle.ats_examples.proofs.NetworkTest.{network_passes, network_by}
+use Rattle.ats_examples.proofs.NetworkTest.{network_passes, long_network_by}
 use Rattle.ats_examples.proofs.RuleTest.{all_pass, holds_by, rest_passes}
 use Rattle.ats_tree_examples.specs.Networks.{split, split_and_flow, by_two_streams, crossed, tree, tree_and_flow}
 use Rattle.ats_tree_examples.specs.Networks.{beside_stream_within, split_nodes, split_links, tree_nodes, tree_links}
@@ -80,15 +80,15 @@ reason_by network reason other rules given differ =
     }
 
 within_is : (deadline_ns : ℕ) → network_passes (tree_within deadline_ns) ≡ true → IsNetwork (tree_within deadline_ns)
-within_is deadline_ns = network_by (tree_nodes 1000000) tree_links (tree_within deadline_ns).streams [] refl
+within_is deadline_ns = long_network_by (tree_nodes 1000000) tree_links (tree_within deadline_ns).streams [] refl
 
 turned_within_is : (deadline_ns : ℕ) → network_passes (turned_within deadline_ns) ≡ true
     → IsNetwork (turned_within deadline_ns)
 turned_within_is deadline_ns =
-    network_by (tree_nodes 1000000) tree_links (turned_within deadline_ns).streams [] refl
+    long_network_by (tree_nodes 1000000) tree_links (turned_within deadline_ns).streams [] refl
 
 beside_is : IsNetwork (beside_stream_within 30000)
-beside_is = network_by (split_nodes 1000000) split_links (beside_stream_within 30000).streams [] refl refl
+beside_is = long_network_by (split_nodes 1000000) split_links (beside_stream_within 30000).streams [] refl refl
 
 not_for_first : Deadline (codes "a") (Some (codes "s3")) 39008000 ≢ Deadline (codes "a") None 39008000
 not_for_first same = cc

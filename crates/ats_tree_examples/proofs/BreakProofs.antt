@@ -17,8 +17,10 @@ use Rattle.ats_examples.specs.Runs.{hop}
 use Rattle.ats_examples.proofs.ChangeProofs.{no_transmission, no_crossing, no_frame, time_in}
 use Rattle.ats_examples.proofs.InOrder.{in_order}
 use Rattle.ats_examples.proofs.PartTest.{others_pass, others_by}
-use Rattle.ats_tree_examples.specs.Networks.{split, split_and_flow, split_by_class, split_ranged, tree_and_flow}
+use Rattle.ats_tree_examples.specs.Networks.{from_bridge, split, split_and_flow, split_by_class, split_ranged}
+use Rattle.ats_tree_examples.specs.Networks.{tree_and_flow}
 use Rattle.ats_tree_examples.specs.Runs.{copy, dropped, too_long, late_by, one_with, behind_flow_with, held_with}
+use Rattle.ats_tree_examples.specs.Runs.{own_with}
 use Rattle.ats_tree_examples.specs.Runs.{counted_with, past_its_group, coming, late_in_tree_with}
 use Rattle.ats_tree_examples.specs.Copies.{survivor}
 use Rattle.ats_tree_examples.specs.Breaks.{CopiesHaveTheFramesTimes, CopiesKeepTheRules, DiscardsAreForAll}
@@ -43,12 +45,16 @@ not_untold keeps = (keeps 0 no_travel (lit< tt)).0.0
 not_lost : ¬ Keeps copies split (one_with (dropped (hop 13836000 13836000 13836000 26172000 ∷ []) ∷ []))
 not_lost keeps = (keeps 0 no_travel (lit< tt)).0.1
 
+not_by_one_port : ¬ Keeps copies from_bridge (own_with (dropped [] ∷ dropped [] ∷ []))
+not_by_one_port keeps = (keeps 0 no_travel (lit< tt)).0.0
+
 pub each_has_one_copy : EachHasOneCopy
 each_has_one_copy = record {
   missing = alone copies split _ refl not_missing;
   twice = alone copies split _ refl not_twice;
   not_told = alone copies split _ refl not_untold;
   lost = alone copies split _ refl not_lost;
+  by_one_port = alone copies from_bridge _ refl not_by_one_port;
 }
 
 not_later : ¬ Keeps copies split (one_with (copy (hop 13836000 13836001 13836001 26172001 ∷ []) 26672001 ∷ []))

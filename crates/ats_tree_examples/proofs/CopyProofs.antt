@@ -17,11 +17,12 @@ use Rattle.ats_examples.proofs.ChangeProofs.{no_crossing, no_transmission, time_
 use Rattle.ats_examples.proofs.LegalProofs.{run_by}
 use Rattle.ats_examples.proofs.PartTest.{legal_by}
 use Rattle.ats_tree_examples.specs.Networks.{split, split_and_flow, split_and_stream, split_by_class, split_ranged}
-use Rattle.ats_tree_examples.specs.Networks.{split_and_slower, branch_ranged, crossed, tree, tree_and_flow}
+use Rattle.ats_tree_examples.specs.Networks.{split_and_slower, behind_bridge, branch_ranged, crossed, from_bridge, tree}
+use Rattle.ats_tree_examples.specs.Networks.{tree_and_flow}
 use Rattle.ats_tree_examples.specs.Runs.{copy, one_split, one_with, long_split, behind_flow, within_burst}
 use Rattle.ats_tree_examples.specs.Runs.{held_by_group, tied_first}
 use Rattle.ats_tree_examples.specs.Runs.{tied_last, coming, crossed_babbler, over_tree, late_in_tree}
-use Rattle.ats_tree_examples.specs.Runs.{copies_in_order, copies_out_of_order, copy_coming}
+use Rattle.ats_tree_examples.specs.Runs.{copies_behind, copies_in_order, copies_out_of_order, copy_coming, own_copies}
 use Rattle.ats_tree_examples.specs.Copies.{BranchesGoByOrder, CopiesAreLegal, CopiesGoByOrder, VerdictsAreOne}
 use Rattle.ats_tree_examples.specs.Copies.{WaysAreWorked, survivor}
 use Rattle.ats_tree_examples.proofs.TreeProofs.{tree_is, tree_and_flow_is}
@@ -35,6 +36,8 @@ copies_are_legal = record {
   held = legal_by split_by_class held_by_group refl;
   babbled = legal_by crossed crossed_babbler refl;
   to_four = legal_by tree (over_tree ∷ []) refl;
+  own = legal_by from_bridge own_copies refl;
+  own_behind = legal_by behind_bridge copies_behind refl;
   late_behind_one = legal_by tree_and_flow late_in_tree refl;
 }
 

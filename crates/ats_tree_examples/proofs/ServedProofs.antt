@@ -1,4 +1,5 @@
-use Rattle.std.proofs.Common.{◌≡◌, ℕ, ◌+◌, ◌*◌, ◌<◌, ◌≤◌, List, [], ◌∷◌, length, get_or, All, refl, arith, lit<, lit≤}
+use Rattle.std.proofs.Common.{◌≡◌, ℕ, ◌+◌, ◌*◌, ◌<◌, ◌≤◌, true, List, [], ◌∷◌, length, get_or, All, refl, arith, lit<}
+use Rattle.std.proofs.Common.{lit≤}
 use Rattle.std.specs.Prelude.{nat_lt, Contains}
 use Rattle.std.proofs.lemmas.List.Elements.{All-cons, All-nil, All-contains_itself}
 use Rattle.ats_network.specs.Network.{DeclaredNetwork}
@@ -17,6 +18,7 @@ use Rattle.ats_examples.proofs.PartTest.{legal_by}
 use Rattle.ats_examples.proofs.RuleProofs.{breaks, unsound_by}
 use Rattle.ats_examples.proofs.RuleTest.{holds_by, others_by, rest_by}
 use Rattle.ats_examples.proofs.SoundRunProofs.{served_in, contained_in}
+use Rattle.ats_examples.proofs.StationTest.{begin_at_stations}
 use Rattle.ats_examples.proofs.Tests.{lt_of, all_by}
 use Rattle.ats_tree_examples.specs.Networks.{split, split_and_flow, split_and_stream, crossed, tree, tree_and_flow}
 use Rattle.ats_tree_examples.specs.Runs.{one_split, behind_flow, tied_first, crossed_babbler, over_tree, late_in_tree}
@@ -32,15 +34,16 @@ use Rattle.ats_tree_examples.proofs.TreeProofs.{tree_and_flow_is}
 
 -- by the path law
 served_at : (network : DeclaredNetwork) (rows : List Row) (run : List Travel) (frame : ℕ) (times : List ℕ)
-    → IsCertified network rows → IsLegal network run → Contains run (travel_at run frame)
+    → IsCertified network rows → begin_at_stations network ≡ true → IsLegal network run
+    → Contains run (travel_at run frame)
     → IsOfStream network (travel_at run frame)
     → KeepsBuckets network (releases_of run) (talker_of network (travel_at run frame).release.sender)
     → endings_of (travel_at run frame) ≡ arrivals times → IsServedAt network rows run frame times
-served_at network rows run frame times certified legal among stream keeps arrives = record {
+served_at network rows run frame times certified stations legal among stream keeps arrives = record {
   certified = certified;
   legal = legal;
   keeps = keeps;
-  served = served_in network rows run (travel_at run frame) certified legal among stream keeps;
+  served = served_in network rows run (travel_at run frame) certified stations legal among stream keeps;
   arrives = arrives;
 }
 
@@ -67,15 +70,15 @@ last_kept = keeps_by tree (releases_of (late_at_last ∷ [])) (talker_of tree 0)
 
 pub listeners_are_served : ListenersAreServed
 listeners_are_served = record {
-  over_one = served_at split split_rows one_split 0 _ split_certified copies_are_legal.one (0, lit< tt, refl) (lit< tt)
-      (keeps_by split (releases_of one_split) (talker_of split 0) refl refl) refl;
-  over_three = served_at tree tree_rows (over_tree ∷ []) 0 _ tree_certified copies_are_legal.to_four (0, lit< tt, refl)
-      (lit< tt) (keeps_by tree (releases_of (over_tree ∷ [])) (talker_of tree 0) refl refl) refl;
-  one_busy = served_at split_and_flow rows_beside_flow behind_flow 1 _ busy_certified copies_are_legal.one_busy
+  over_one = served_at split split_rows one_split 0 _ split_certified refl copies_are_legal.one (0, lit< tt, refl)
+      (lit< tt) (keeps_by split (releases_of one_split) (talker_of split 0) refl refl) refl;
+  over_three = served_at tree tree_rows (over_tree ∷ []) 0 _ tree_certified refl copies_are_legal.to_four
+      (0, lit< tt, refl) (lit< tt) (keeps_by tree (releases_of (over_tree ∷ [])) (talker_of tree 0) refl refl) refl;
+  one_busy = served_at split_and_flow rows_beside_flow behind_flow 1 _ busy_certified refl copies_are_legal.one_busy
       (1, lit< tt, refl) (lit< tt)
       (keeps_by split_and_flow (releases_of behind_flow) (talker_of split_and_flow 0) refl refl) refl;
   not_later = not_later;
-  no_such_run = λ legal. not_later (served_in tree tree_rows (late_at_last ∷ []) late_at_last tree_certified legal
+  no_such_run = λ legal. not_later (served_in tree tree_rows (late_at_last ∷ []) late_at_last tree_certified refl legal
       (0, lit< tt, refl) (lit< tt) last_kept);
 }
 
@@ -96,11 +99,11 @@ babblers_are_contained = record {
   legal = copies_are_legal.babbled;
   babbles = babbles;
   not_served = λ served. (served 1 (lit< tt)).prompt.1;
-  served = served_at crossed crossed_rows crossed_babbler 0 _ crossed_certified copies_are_legal.babbled
+  served = served_at crossed crossed_rows crossed_babbler 0 _ crossed_certified refl copies_are_legal.babbled
       (0, lit< tt, refl) (lit< tt)
       (keeps_by crossed (releases_of crossed_babbler) (talker_of crossed 0) refl refl) refl;
   contained = λ k d h. contained_in crossed crossed_rows crossed_babbler (get_or crossed_babbler k d) crossed_certified
-      copies_are_legal.babbled (All-contains_itself crossed_babbler k d h) (of_streams k d h);
+      refl copies_are_legal.babbled (All-contains_itself crossed_babbler k d h) (of_streams k d h);
 }
 
 tied_legal : IsLegal split_and_stream tied_first
@@ -121,14 +124,14 @@ branches_count = record {
   left_out = breaks bursts_are_right split_and_stream (rows_with_bursts 12336 11664000 12836000) split_and_stream_is
       (others_by bursts_are_right split_and_stream (rows_with_bursts 12336 11664000 12836000) refl)
       (rest_by split_and_stream (rows_with_bursts 12336 11664000 12836000) refl)
-      (unsound_by split_and_stream (rows_with_bursts 12336 11664000 12836000) tied_first 1 tied_legal
+      (unsound_by split_and_stream (rows_with_bursts 12336 11664000 12836000) tied_first 1 refl tied_legal
       (1, lit< tt, refl) (lit< tt) tied_kept left_out_unserved);
   counted = served_at split_and_stream (rows_with_bursts 24672 24000000 25172000) tied_first 1 _
       (record {
         rules = split_and_stream_is;
         holds = holds_by split_and_stream (rows_with_bursts 24672 24000000 25172000) refl refl;
       })
-      tied_legal (1, lit< tt, refl) (lit< tt) tied_kept refl;
+      refl tied_legal (1, lit< tt, refl) (lit< tt) tied_kept refl;
 }
 
 late_kept : KeepsBuckets tree_and_flow (releases_of late_in_tree) (talker_of tree_and_flow 0)
@@ -138,7 +141,7 @@ pub stay_counts : StayCounts
 stay_counts = record {
   alone = breaks frames_may_stay tree_and_flow rows_of_no_stay tree_and_flow_is
       (others_by frames_may_stay tree_and_flow rows_of_no_stay refl) (rest_by tree_and_flow rows_of_no_stay refl)
-      (unsound_by tree_and_flow rows_of_no_stay late_in_tree 2 copies_are_legal.late_behind_one (2, lit< tt, refl)
+      (unsound_by tree_and_flow rows_of_no_stay late_in_tree 2 refl copies_are_legal.late_behind_one (2, lit< tt, refl)
       (lit< tt) late_kept (λ served. (served 0 (lit< tt)).prompt.1.1));
   legal = copies_are_legal.late_behind_one;
   keeps = late_kept;
@@ -226,7 +229,7 @@ late_for_fourth = late_for tree (short_tree_rows 12) over_tree 3 (0 ∷ 1 ∷ 2 
 pub each_listener_counts : EachListenerCounts
 each_listener_counts = record {
   over_one = split_late;
-  not_sound = unsound_by split short_split_rows one_split 0 copies_are_legal.one (0, lit< tt, refl) (lit< tt)
+  not_sound = unsound_by split short_split_rows one_split 0 refl copies_are_legal.one (0, lit< tt, refl) (lit< tt)
       (keeps_by split (releases_of one_split) (talker_of split 0) refl refl) split_late.not_served;
   for_first = late_for_first;
   for_second = late_for_second;

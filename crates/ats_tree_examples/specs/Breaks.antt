@@ -3,14 +3,16 @@ use Rattle.ats_trace.specs.Journey.{no_leg}
 use Rattle.ats_trace.specs.Parts.{copies, links, prompt, groups}
 use Rattle.ats_examples.specs.Deviations.{BreaksAlone}
 use Rattle.ats_examples.specs.Runs.{hop}
-use Rattle.ats_tree_examples.specs.Networks.{split, split_and_flow, split_by_class, split_ranged, tree_and_flow}
-use Rattle.ats_tree_examples.specs.Runs.{copy, dropped, too_long, late_by, one_with, behind_flow_with}
+use Rattle.ats_tree_examples.specs.Networks.{from_bridge, split, split_and_flow, split_by_class, split_ranged}
+use Rattle.ats_tree_examples.specs.Networks.{tree_and_flow}
+use Rattle.ats_tree_examples.specs.Runs.{copy, dropped, own_with, too_long, late_by, one_with, behind_flow_with}
 use Rattle.ats_tree_examples.specs.Runs.{counted_with, held_with, past_its_group, coming, late_in_tree_with}
 use Rattle.ats_tree_examples.specs.Copies.{survivor}
 
 -- Runs with a copy that is told wrongly, each of which breaks one part alone.
 
--- there is no copy, or there are two; nothing is told of it, or it is not told what became of it
+-- there is no copy, or there are two; nothing is told of it, or it is not told what became of it; or a bridge sends its
+-- own frame by the trunk's port alone
 pub record EachHasOneCopy : Type 0 where
   pub missing : BreaksAlone copies split (one_with [])
   pub twice : BreaksAlone copies split
@@ -18,6 +20,7 @@ pub record EachHasOneCopy : Type 0 where
       ∷ copy (hop 13836000 13836000 13836000 26172000 ∷ []) 26672000 ∷ []))
   pub not_told : BreaksAlone copies split (one_with (no_leg ∷ []))
   pub lost : BreaksAlone copies split (one_with (dropped (hop 13836000 13836000 13836000 26172000 ∷ []) ∷ []))
+  pub by_one_port : BreaksAlone copies from_bridge (own_with (dropped [] ∷ dropped [] ∷ []))
 
 -- the copy is eligible 1 ps after the frame; it came 1 ps after the frame, also where a bridge takes a range of time;
 -- or it is eligible when it comes, where the frame waits for its group

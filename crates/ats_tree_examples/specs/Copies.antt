@@ -14,19 +14,22 @@ use Rattle.ats_trace.specs.Ways.{listener_count, route_to, way_to}
 use Rattle.ats_examples.specs.LegalRuns.{frame_key, least_wait, greatest_wait}
 use Rattle.ats_examples.specs.Runs.{hop}
 use Rattle.ats_tree_examples.specs.Networks.{split, split_and_flow, split_and_stream, split_by_class, split_ranged}
-use Rattle.ats_tree_examples.specs.Networks.{split_and_slower, branch_ranged, crossed, tree, tree_and_flow}
+use Rattle.ats_tree_examples.specs.Networks.{split_and_slower, behind_bridge, branch_ranged, crossed, from_bridge, tree}
+use Rattle.ats_tree_examples.specs.Networks.{tree_and_flow}
 use Rattle.ats_tree_examples.specs.Trees.{tree_routes}
 use Rattle.ats_tree_examples.specs.Runs.{copy, dropped, late_by, one_split, one_with, long_with, long_split}
 use Rattle.ats_tree_examples.specs.Runs.{behind_flow}
 use Rattle.ats_tree_examples.specs.Runs.{within_burst, held_by_group, tied_first, tied_last, coming, crossed_babbler}
 use Rattle.ats_tree_examples.specs.Runs.{copies_in_order, copies_out_of_order, copy_coming, over_tree, late_in_tree}
+use Rattle.ats_tree_examples.specs.Runs.{copies_behind, own_copies}
 
 -- What the definitions of runs say of frames and their copies.
 
 -- these runs are legal: a frame and its copy over one bridge, which discards both where the frame is too long; a copy
 -- whose port is free goes on where the frame waits; a frame counts once against its burst; a copy waits for those of
 -- the frame's group behind the first port; a babbler's last frame is discarded for both listeners; a frame and three
--- copies over three bridges; and a frame that is discarded behind one branch and before another
+-- copies over three bridges; a frame of a bridge, which sends a copy by each of its ports that the tree has, and one
+-- whose copy is copied behind it; and a frame that is discarded behind one branch and before another
 pub record CopiesAreLegal : Type 0 where
   pub one : IsLegal split one_split
   pub too_long : IsLegal split long_split
@@ -35,6 +38,8 @@ pub record CopiesAreLegal : Type 0 where
   pub held : IsLegal split_by_class held_by_group
   pub babbled : IsLegal crossed crossed_babbler
   pub to_four : IsLegal tree (over_tree ∷ [])
+  pub own : IsLegal from_bridge own_copies
+  pub own_behind : IsLegal behind_bridge copies_behind
   pub late_behind_one : IsLegal tree_and_flow late_in_tree
 
 -- a copy ties with other frames at its port by the key of its frame, and comes to the bridge by the frame's pace

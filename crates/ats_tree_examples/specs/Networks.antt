@@ -4,7 +4,7 @@ use Rattle.ats_topology.specs.declared.node.Node.{Node}
 use Rattle.ats_topology.specs.declared.link.Link.{Link}
 use Rattle.ats_streams.specs.Stream.{DeclaredStream, branching_stream, classes_for}
 use Rattle.ats_streams.specs.declared.branch.Branch.{Branch}
-use Rattle.ats_network.specs.Network.{DeclaredNetwork, declared_network}
+use Rattle.ats_network.specs.Network.{DeclaredNetwork, long_network}
 use Rattle.ats_examples.specs.Networks.{station, bridge, ranged_bridge, link, flow}
 
 -- The worked networks whose streams have several listeners, each written out once.
@@ -43,15 +43,15 @@ abbrev pub split_stream : List ℕ → ℕ → DeclaredStream
 split_stream classes deadline_ns = stream_of (codes "a") (0 ∷ 2 ∷ 4 ∷ []) (branch 2 0 1 ∷ []) classes deadline_ns
 
 abbrev pub split : DeclaredNetwork
-split = declared_network split_topology (split_stream (6 ∷ []) 1000000 ∷ []) []
+split = long_network split_topology (split_stream (6 ∷ []) 1000000 ∷ []) []
 
 -- and with a flow from s3 to s2, which has number 1
 abbrev pub split_and_flow : DeclaredNetwork
-split_and_flow = declared_network split_topology split.streams (flow (codes "f") (5 ∷ 2 ∷ []) ∷ [])
+split_and_flow = long_network split_topology split.streams (flow (codes "f") (5 ∷ 2 ∷ []) ∷ [])
 
 -- and with a stream from s2 to s3, which has number 1
 abbrev pub beside_stream_within : ℕ → DeclaredNetwork
-beside_stream_within deadline_ns = declared_network split_topology
+beside_stream_within deadline_ns = long_network split_topology
     (split_stream (6 ∷ []) deadline_ns ∷ stream (codes "z") (3 ∷ 4 ∷ []) [] ∷ []) []
 
 abbrev pub split_and_stream : DeclaredNetwork
@@ -59,7 +59,7 @@ split_and_stream = beside_stream_within 1000000
 
 -- and with a stream of 50 Mb/s from s1 to s2, which has number 1: no trunk has port 4
 abbrev pub split_and_slower : DeclaredNetwork
-split_and_slower = declared_network split_topology
+split_and_slower = long_network split_topology
     (split_stream (6 ∷ []) 1000000
     ∷ branching_stream (codes "z") (0 ∷ 2 ∷ []) [] (6 ∷ 6 ∷ []) 50000000 12336 64 1522 1000000 None
     ∷ [])
@@ -68,7 +68,7 @@ split_and_slower = declared_network split_topology
 -- where the copies leave the bridge in class 5, as do the frames of another stream from s1 to s3, of 50 Mb/s, which has
 -- number 1; at s1 both have class 6. Frames may stay 100000 ns
 abbrev pub split_by_class : DeclaredNetwork
-split_by_class = declared_network (topology_of (split_nodes 100000) split_links)
+split_by_class = long_network (topology_of (split_nodes 100000) split_links)
     (split_stream (6 ∷ 6 ∷ 5 ∷ []) 1000000
     ∷ branching_stream (codes "z") (0 ∷ 4 ∷ []) [] (6 ∷ 5 ∷ []) 50000000 12336 64 1522 1000000 None
     ∷ [])
@@ -80,7 +80,7 @@ split_ranged_nodes =
     station (codes "s1") ∷ station (codes "s2") ∷ station (codes "s3") ∷ ranged_bridge (codes "b1") 12464 ∷ []
 
 abbrev pub split_ranged : DeclaredNetwork
-split_ranged = declared_network (topology_of split_ranged_nodes split_links) split.streams []
+split_ranged = long_network (topology_of split_ranged_nodes split_links) split.streams []
 
 -- where port 4 leads from b1 to b2, which takes 200 to 1000 ns to process a frame, and port 6 from there to s3: the
 -- copies alone go over b2
@@ -93,12 +93,12 @@ branch_ranged_links =
     ∷ link (codes "b2") (codes "s3") ∷ []
 
 abbrev pub branch_ranged : DeclaredNetwork
-branch_ranged = declared_network (topology_of branch_ranged_nodes branch_ranged_links)
+branch_ranged = long_network (topology_of branch_ranged_nodes branch_ranged_links)
     (stream (codes "a") (0 ∷ 2 ∷ 4 ∷ 6 ∷ []) (branch 2 0 1 ∷ []) ∷ []) []
 
 -- the same listeners by two streams with one listener each, which both use port 0
 abbrev pub by_two_streams : DeclaredNetwork
-by_two_streams = declared_network split_topology
+by_two_streams = long_network split_topology
     (stream (codes "a") (0 ∷ 2 ∷ []) [] ∷ stream (codes "b") (0 ∷ 4 ∷ []) [] ∷ []) []
 
 -- one bridge between three stations, where port 4 leads from s3 to b1, and frames may stay 11664 ns; with a stream from
@@ -108,7 +108,7 @@ crossed_links =
     link (codes "s1") (codes "b1") ∷ link (codes "b1") (codes "s2") ∷ link (codes "s3") (codes "b1") ∷ []
 
 abbrev pub crossed : DeclaredNetwork
-crossed = declared_network (topology_of (split_nodes 11664) crossed_links)
+crossed = long_network (topology_of (split_nodes 11664) crossed_links)
     (stream (codes "a") (0 ∷ 2 ∷ []) [] ∷ stream (codes "z") (4 ∷ 2 ∷ 1 ∷ []) (branch 2 0 1 ∷ []) ∷ []) []
 
 -- three bridges between five stations: port 0 leads from s1 to b1, port 2 from b1 to b2, port 4 from b2 to s2, port 6
@@ -134,11 +134,35 @@ tree_branches = branch 3 0 1 ∷ branch 4 0 2 ∷ branch 6 2 1 ∷ []
 
 -- with this deadline in nanoseconds
 abbrev pub tree_within : ℕ → DeclaredNetwork
-tree_within deadline_ns = declared_network (topology_of (tree_nodes 1000000) tree_links)
+tree_within deadline_ns = long_network (topology_of (tree_nodes 1000000) tree_links)
     (stream_of (codes "a") tree_ports tree_branches (6 ∷ []) deadline_ns ∷ []) []
 
 abbrev pub tree : DeclaredNetwork
 tree = tree_within 1000000
+
+-- over the same links, a stream from b2 to s2, and to s3 and b3: both branches begin at b2, the talker
+abbrev pub bridge_ports : List ℕ
+bridge_ports = 4 ∷ 3 ∷ 6 ∷ 8 ∷ []
+
+abbrev pub bridge_branches : List Branch
+bridge_branches = branch 1 0 0 ∷ branch 3 0 0 ∷ []
+
+abbrev pub from_bridge : DeclaredNetwork
+from_bridge = long_network (topology_of (tree_nodes 1000000) tree_links)
+    (stream (codes "a") bridge_ports bridge_branches ∷ []) []
+
+-- and with a stream from b2 to s2, and to s3 and s1: the first branch begins at the talker, and the second at b1,
+-- behind
+-- the first one's first port
+abbrev pub behind_ports : List ℕ
+behind_ports = 4 ∷ 3 ∷ 6 ∷ 1 ∷ []
+
+abbrev pub behind_branches : List Branch
+behind_branches = branch 1 0 0 ∷ branch 3 1 1 ∷ []
+
+abbrev pub behind_bridge : DeclaredNetwork
+behind_bridge = long_network (topology_of (tree_nodes 1000000) tree_links)
+    (stream (codes "a") behind_ports behind_branches ∷ []) []
 
 -- the same tree with its listeners in another order, s3, s2, s5 and s4, which is neither that of their names nor that
 -- of the nodes: the branches begin at b1, at b2 on the first branch, and at b3 on the second
@@ -149,7 +173,7 @@ abbrev pub turned_branches : List Branch
 turned_branches = branch 2 0 1 ∷ branch 4 1 1 ∷ branch 6 2 1 ∷ []
 
 abbrev pub turned_within : ℕ → DeclaredNetwork
-turned_within deadline_ns = declared_network (topology_of (tree_nodes 1000000) tree_links)
+turned_within deadline_ns = long_network (topology_of (tree_nodes 1000000) tree_links)
     (stream_of (codes "a") turned_ports turned_branches (6 ∷ []) deadline_ns ∷ []) []
 
 abbrev pub turned : DeclaredNetwork
@@ -157,7 +181,7 @@ turned = turned_within 1000000
 
 -- and with a flow from s3 to s2, where no frame may stay at the second bridge
 abbrev pub tree_and_flow : DeclaredNetwork
-tree_and_flow = declared_network (topology_of (tree_nodes 0) tree_links) tree.streams
+tree_and_flow = long_network (topology_of (tree_nodes 0) tree_links) tree.streams
     (flow (codes "f") (7 ∷ 2 ∷ 4 ∷ []) ∷ [])
 
 -- the tree with an eighth link, from b1 to b3 by port 14
@@ -169,5 +193,5 @@ ring_topology = topology_of (tree_nodes 1000000) ring_links
 
 -- over it a stream from s1 to s2 and to s4, whose frames go to s4 over b2, though the eighth link is a shorter way
 abbrev pub round : DeclaredNetwork
-round = declared_network ring_topology
+round = long_network ring_topology
     (stream (codes "a") (0 ∷ 2 ∷ 4 ∷ 8 ∷ 10 ∷ []) (branch 3 0 2 ∷ []) ∷ []) []

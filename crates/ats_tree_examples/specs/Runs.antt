@@ -198,6 +198,21 @@ over_tree =
     ∷ []
     )
 
+-- one frame of the bridge, with these copies by its other ports; and the run in which it sends one by each at once
+abbrev pub own_with : List Leg → List Travel
+own_with legs = copied (sunk 0 0 1522 (hop 0 0 0 12336000 ∷ []) 12836000) legs ∷ []
+
+abbrev pub own_copies : List Travel
+own_copies = own_with
+    (copy (hop 0 0 0 12336000 ∷ hop 13836000 13836000 13836000 26172000 ∷ []) 26672000
+    ∷ copy (hop 0 0 0 12336000 ∷ []) 13836000 ∷ [])
+
+-- and where the copy of the first branch is copied at b1
+abbrev pub copies_behind : List Travel
+copies_behind = own_with
+    (copy (hop 0 0 0 12336000 ∷ hop 13836000 13836000 13836000 26172000 ∷ []) 26672000
+    ∷ copy (hop 13836000 13836000 13836000 26172000 ∷ []) 26672000 ∷ [])
+
 -- where no frame may stay at the second bridge: a frame of the flow, one of the stream behind it, and the next of the
 -- stream, which comes to the second bridge before its bucket there is full again. So it is discarded there, for all
 -- listeners but the one at the first bridge; this is told of its last leg

@@ -15,20 +15,21 @@ pub fn routes_are_worked()
     ensures { RoutesAreWorked }
 {}
 
-/// A branch begins at a hop, other than the first, of an earlier leg, and has a port; branches that break one of these
-/// rules alone are none.
+/// A branch begins at a hop of an earlier leg, at the talker too but not at the first hop of a branch, and has a port;
+/// branches that break one of these rules alone are none.
 pub fn branches_begin_earlier()
     ensures { BranchesBeginEarlier }
 {}
 
 /// Legs that come to a node in two ways are no tree: where a branch comes to a bridge of the trunk again, where two
-/// branches meet, and where a branch goes to a listener again or back to the talker. Nor are those with a branch that
-/// ends at a bridge, or that does not go on from where it begins.
+/// branches meet, where a branch goes to a listener again or back to the talker, and where one begins at a station. Nor
+/// are those with a branch that does not go on from where it begins.
 pub fn other_ways_are_refused()
     ensures { OtherWaysAreRefused }
 {}
 
-/// The walks that are computed from a talker to four listeners are the routes of a trunk and branches.
+/// The walks that are computed from a talker to four listeners are the routes of a trunk and branches, and so are those
+/// from a bridge to two stations and a bridge; where a listener is on the way to another one, they are not.
 pub fn least_walks_are_worked()
     ensures { LeastWalksAreWorked }
 {}

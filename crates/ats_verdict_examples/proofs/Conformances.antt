@@ -59,7 +59,7 @@ may_be_run network releases few ordered each = record {
   each = all_by (IsRelease network) (is_release network) (release_by network) releases each;
 }
 
--- each stream conforms, and each release has a declared size, so each station keeps its buckets
+-- each stream conforms, and each release has a declared size, so each node keeps its buckets
 all_keep_by : (network : DeclaredNetwork) (releases : List Release)
     → each_below (stream_conforms network releases) (length network.streams) ≡ true
     → list_all (is_sized network) releases ≡ true → AllKeepBuckets network releases

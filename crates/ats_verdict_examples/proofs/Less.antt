@@ -26,6 +26,7 @@ use Rattle.ats_verdict_examples.proofs.NetworkProofs.{three_in_time, three_late,
 less_by : (deadline_ns : ℕ) → IsLessBy (of_three deadline_ns) (of_two deadline_ns) y
 less_by deadline_ns = record {
   topology = refl;
+  most_ports = refl;
   flows = refl;
   streams = record { front = x_until deadline_ns ∷ []; back = z ∷ []; old_is = refl; new_is = refl };
 }

@@ -48,7 +48,7 @@ from_65 = declared_network line.topology
 abbrev pub too_short : List Release
 too_short = release 0 0 64 ∷ []
 
--- each may be run. By the first every station keeps its buckets. By the next the last frame, 1 ps earlier, exceeds the
+-- each may be run. By the first every node keeps its buckets. By the next the last frame, 1 ps earlier, exceeds the
 -- bucket from frame 1 on, and by those after it from frame 0; by the next ones frame 1 has no declared size. Nothing
 -- else is named. Of two streams that break theirs, the one whose frame is first is named, and frames are named by their
 -- numbers among all releases, not among those of their stream. A flow may send frames at once, of declared sizes

@@ -54,7 +54,7 @@ expected =
 -- first that is accepted, with none there is a reason in each, and a stream is judged along its path
 pub record RequestsAreMet : Type 0 where
   pub certified : IsCertified bridged
-  pub may_ask : All (MayAsk bridged.topology) asked
+  pub may_ask : All (MayAsk bridged) asked
   pub answered : answers bridged asked ≡ expected
   pub left : after_all bridged asked ≡ bridged
   pub stays : StaysCertified bridged (after_all bridged asked)

@@ -14,7 +14,7 @@ ghost use Rattle.ats_verdict_examples.specs.Ways.{WalksAreMet};
 
 use ats_explain::laws::{clear_where_one_holds, each_stream_adds_up};
 
-/// Releases by which every station keeps its buckets, and such that one frame breaks what its stream declares, a
+/// Releases by which every node keeps its buckets, and such that one frame breaks what its stream declares, a
 /// picosecond early or an octet long. What is named then is the frame from which on the bucket is exceeded by most, the
 /// first of two that are as bad; of two streams that break theirs, the one whose frame is first. A flow may send frames
 /// at once, of declared sizes.

@@ -4,13 +4,15 @@ use Rattle.std.specs.Fmt.{digits}
 use Rattle.std.specs.List.{All}
 use Rattle.std.proofs.lemmas.List.Elements.{All-cons, All-nil}
 use Rattle.ats_num.specs.Failure.{◌>>=◌}
-use Rattle.ats_network.specs.Network.{DeclaredNetwork, declared_network}
+use Rattle.ats_network.specs.Network.{DeclaredNetwork, long_network}
 use Rattle.ats_network.specs.Path.{IsValidPath}
 use Rattle.ats_route_tree.specs.Legs.{DeclaredLegs}
 use Rattle.ats_network_file.specs.Reading.{network_of}
-use Rattle.ats_network_file.specs.Senders.{all_added, flow_added, stream_added}
+use Rattle.ats_network_file.specs.Senders.{all_added, alone, flow_added, placed, stream_added}
+use Rattle.ats_network_file.specs.declared.senders.SenderTable.TheVariants.{Flow, Stream}
 use Rattle.ats_network_file.specs.declared.fault.NetFault.{NetFault}
 use Rattle.ats_network_file.proofs.LegsFound.{legs_are}
+use Rattle.ats_network_table.specs.declared.format.Format.TheVariants.{Three}
 use Rattle.ats_network_toml.specs.Document as file
 use Rattle.ats_network_toml.specs.Document.{ends}
 use Rattle.ats_witness.specs.Found.{FoundDelays, found_delays}
@@ -27,7 +29,8 @@ use Rattle.ats_command_due.specs.Witnessed.{IsWitnessed, Witnessed, least_sum, w
 use Rattle.ats_examples.proofs.NetworkTest.{valid_from_by}
 use Rattle.ats_tree_examples.specs.Networks.{split, split_and_flow, split_topology}
 use Rattle.ats_file_examples.proofs.Parsing.{parsed}
-use Rattle.ats_file_examples.proofs.Steps.{document_is, flow_is, network_is, one_more, path_is, stream_is}
+use Rattle.ats_file_examples.proofs.Steps.{at_flow, at_stream, document_is, flow_is, network_is, one_more}
+use Rattle.ats_file_examples.proofs.Steps.{path_is, stream_is}
 use Rattle.ats_call_examples.specs.Files.{done_with, told}
 use Rattle.ats_call_examples.proofs.Line.{answered, taken}
 use Rattle.ats_call_examples.proofs.Telling.{of_declared, one_told}
@@ -57,6 +60,7 @@ flow_entry = record { name = codes "f"; route = ends (codes "s3") (codes "s2"); 
 
 abbrev document : file.DeclaredDocument
 document = record {
+  format = Three;
   stations = record { name = codes "s1" } ∷ record { name = codes "s2" } ∷ record { name = codes "s3" } ∷ [];
   bridges =
       record { name = codes "b1"; processing_min_ns = 1000; processing_max_ns = 1000; residence_ns = 1000000 } ∷ [];
@@ -65,11 +69,13 @@ document = record {
       ∷ record { a = codes "b1"; b = codes "s2"; mbps = 1000; propagation_ns = 500 }
       ∷ record { a = codes "b1"; b = codes "s3"; mbps = 1000; propagation_ns = 500 } ∷ [];
   streams = entry ∷ [];
+  link_locals = [];
   flows = flow_entry ∷ [];
+  link_local_flows = [];
 }
 
 abbrev no_senders : DeclaredNetwork
-no_senders = declared_network split_topology [] []
+no_senders = long_network split_topology [] []
 
 -- the legs of the stream
 abbrev legs : DeclaredLegs
@@ -81,21 +87,23 @@ both_valid =
     All-cons P (0 ∷ 2 ∷ []) ((0 ∷ 4 ∷ []) ∷ []) (valid_from_by split_topology 0 (0 ∷ 2 ∷ []) refl)
     (All-cons P (0 ∷ 4 ∷ []) [] (valid_from_by split_topology 0 (0 ∷ 4 ∷ []) refl) (All-nil P))
 
-streams_added : all_added stream_added no_senders 1 document.streams ≡ Ok split
-streams_added = one_more stream_added no_senders split 1 entry []
-    (stream_is no_senders 1 entry legs (Ok split)
-    (legs_are split_topology 1 routes ((0 ∷ 2 ∷ []) ∷ (0 ∷ 4 ∷ []) ∷ []) legs refl both_valid refl) refl)
+streams_added : all_added (stream_added Three) no_senders (placed alone Stream 1 document.streams) ≡ Ok split
+streams_added = one_more (stream_added Three) no_senders split (at_stream 1) entry []
+    (stream_is Three no_senders (at_stream 1) entry legs (Ok split)
+    (legs_are Three split_topology (at_stream 1) routes ((0 ∷ 2 ∷ []) ∷ (0 ∷ 4 ∷ []) ∷ []) legs refl both_valid refl
+    refl) refl)
 
-flows_added : all_added flow_added split 1 document.flows ≡ Ok split_and_flow
-flows_added = one_more flow_added split split_and_flow 1 flow_entry []
-    (flow_is split 1 flow_entry (5 ∷ 2 ∷ []) (Ok split_and_flow)
-    (path_is split_topology 1 (ends (codes "s3") (codes "s2")) (5 ∷ 2 ∷ []) refl
+flows_added : all_added (flow_added Three) split (placed alone Flow 1 document.flows) ≡ Ok split_and_flow
+flows_added = one_more (flow_added Three) split split_and_flow (at_flow 1) flow_entry []
+    (flow_is Three split (at_flow 1) flow_entry (5 ∷ 2 ∷ []) (Ok split_and_flow)
+    (path_is Three split_topology (at_flow 1) (ends (codes "s3") (codes "s2")) (5 ∷ 2 ∷ []) refl refl
     (valid_from_by split_topology 2 (5 ∷ 2 ∷ []) refl)) refl)
 
 both_text_is : network_of both_text ≡ Ok split_and_flow
 unfolding parsed
 both_text_is = network_is both_text document (Ok split_and_flow) (document_is both_text (Ok document) refl refl)
-    (ap (λ (s : Result DeclaredNetwork NetFault). s >>= λ streamed. all_added flow_added streamed 1 document.flows)
+    (ap (λ (s : Result DeclaredNetwork NetFault). s >>= λ streamed. all_added
+    (flow_added Three) streamed (placed alone Flow 1 document.flows))
     streams_added ∙ flows_added)
 
 file_is : network_in (codes "n") both_text ≡ Ok split_and_flow

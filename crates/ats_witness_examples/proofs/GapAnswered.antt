@@ -4,8 +4,10 @@ use Rattle.std.specs.Fmt.{digits}
 use Rattle.ats_num.specs.Failure.{◌>>=◌}
 use Rattle.ats_network.specs.Network.{DeclaredNetwork, declared_network}
 use Rattle.ats_network_file.specs.Reading.{network_of}
-use Rattle.ats_network_file.specs.Senders.{all_added, flow_added, stream_added}
+use Rattle.ats_network_file.specs.Senders.{all_added, alone, flow_added, placed, stream_added}
+use Rattle.ats_network_file.specs.declared.senders.SenderTable.TheVariants.{Flow, Stream}
 use Rattle.ats_network_file.specs.declared.fault.NetFault.{NetFault}
+use Rattle.ats_network_table.specs.declared.format.Format.TheVariants.{One}
 use Rattle.ats_network_toml.specs.Document as file
 use Rattle.ats_network_toml.specs.Document.{ends}
 use Rattle.ats_witness.specs.Found.{AreFound, FoundDelays, found_delays}
@@ -22,7 +24,8 @@ use Rattle.ats_command_due.specs.Witnessed.{IsWitnessed, Witnessed, least_sum, w
 use Rattle.ats_examples.proofs.NetworkTest.{valid_from_by}
 use Rattle.ats_examples.specs.Networks.{line, line_and_flow}
 use Rattle.ats_file_examples.proofs.Parsing.{parsed}
-use Rattle.ats_file_examples.proofs.Steps.{document_is, flow_is, legs_is, network_is, one_leg, one_more, path_is}
+use Rattle.ats_file_examples.proofs.Steps.{at_flow, at_stream, document_is, flow_is, legs_is, network_is}
+use Rattle.ats_file_examples.proofs.Steps.{one_leg, one_more, path_is}
 use Rattle.ats_file_examples.proofs.Steps.{stream_is}
 use Rattle.ats_call_examples.specs.Files.{done_with, refused_with, told}
 use Rattle.ats_call_examples.proofs.Line.{answered, taken}
@@ -50,6 +53,7 @@ flow_entry = record { name = codes "f"; route = ends (codes "s1") (codes "s2"); 
 
 abbrev document : file.DeclaredDocument
 document = record {
+  format = One;
   stations = record { name = codes "s1" } ∷ record { name = codes "s2" } ∷ [];
   bridges =
       record { name = codes "b1"; processing_min_ns = 1000; processing_max_ns = 1000; residence_ns = 1000000 } ∷ [];
@@ -57,28 +61,31 @@ document = record {
       record { a = codes "s1"; b = codes "b1"; mbps = 1000; propagation_ns = 500 }
       ∷ record { a = codes "b1"; b = codes "s2"; mbps = 1000; propagation_ns = 500 } ∷ [];
   streams = entry ∷ [];
+  link_locals = [];
   flows = flow_entry ∷ [];
+  link_local_flows = [];
 }
 
 abbrev no_senders : DeclaredNetwork
 no_senders = declared_network line.topology [] []
 
-streams_added : all_added stream_added no_senders 1 document.streams ≡ Ok line
-streams_added = one_more stream_added no_senders line 1 entry []
-    (stream_is no_senders 1 entry (one_leg (0 ∷ 2 ∷ [])) (Ok line)
-    (legs_is line.topology 1 (ends (codes "s1") (codes "s2") ∷ []) (0 ∷ 2 ∷ []) refl
+streams_added : all_added (stream_added One) no_senders (placed alone Stream 1 document.streams) ≡ Ok line
+streams_added = one_more (stream_added One) no_senders line (at_stream 1) entry []
+    (stream_is One no_senders (at_stream 1) entry (one_leg (0 ∷ 2 ∷ [])) (Ok line)
+    (legs_is One line.topology (at_stream 1) (ends (codes "s1") (codes "s2") ∷ []) (0 ∷ 2 ∷ []) refl refl
     (valid_from_by line.topology 0 (0 ∷ 2 ∷ []) refl)) refl)
 
-flows_added : all_added flow_added line 1 document.flows ≡ Ok line_and_flow
-flows_added = one_more flow_added line line_and_flow 1 flow_entry []
-    (flow_is line 1 flow_entry (0 ∷ 2 ∷ []) (Ok line_and_flow)
-    (path_is line.topology 1 (ends (codes "s1") (codes "s2")) (0 ∷ 2 ∷ []) refl
+flows_added : all_added (flow_added One) line (placed alone Flow 1 document.flows) ≡ Ok line_and_flow
+flows_added = one_more (flow_added One) line line_and_flow (at_flow 1) flow_entry []
+    (flow_is One line (at_flow 1) flow_entry (0 ∷ 2 ∷ []) (Ok line_and_flow)
+    (path_is One line.topology (at_flow 1) (ends (codes "s1") (codes "s2")) (0 ∷ 2 ∷ []) refl refl
     (valid_from_by line.topology 0 (0 ∷ 2 ∷ []) refl)) refl)
 
 flow_text_is : network_of flow_text ≡ Ok line_and_flow
 unfolding parsed
 flow_text_is = network_is flow_text document (Ok line_and_flow) (document_is flow_text (Ok document) refl refl)
-    (ap (λ (s : Result DeclaredNetwork NetFault). s >>= λ streamed. all_added flow_added streamed 1 document.flows)
+    (ap (λ (s : Result DeclaredNetwork NetFault). s >>= λ streamed. all_added
+    (flow_added One) streamed (placed alone Flow 1 document.flows))
     streams_added ∙ flows_added)
 
 file_is : network_in (codes "n") flow_text ≡ Ok line_and_flow

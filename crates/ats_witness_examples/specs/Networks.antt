@@ -4,7 +4,7 @@ use Rattle.ats_topology.specs.declared.node.Node.{Node}
 use Rattle.ats_topology.specs.declared.link.Link.{Link}
 use Rattle.ats_streams.specs.Stream.{DeclaredStream, declared_stream}
 use Rattle.ats_network.specs.Sender.{Sender}
-use Rattle.ats_network.specs.Network.{DeclaredNetwork, declared_network}
+use Rattle.ats_network.specs.Network.{DeclaredNetwork, declared_network, long_network}
 use Rattle.ats_examples.specs.Networks.{bridge, flow, line_with, link, station, stream}
 use Rattle.ats_tree_examples.specs.Networks as trees
 use Rattle.ats_tree_examples.specs.Networks.{branch, tree, tree_branches, tree_ports}
@@ -30,7 +30,7 @@ joined = declared_network (topology_of joined_nodes joined_links)
 -- s2 to s1 and to s4, which has number 1 and whose copies leave the second bridge by port 8, and with a flow from s2 to
 -- s5, which has number 2
 abbrev pub joined_trees : DeclaredNetwork
-joined_trees = declared_network tree.topology
+joined_trees = long_network tree.topology
     (trees.stream (codes "a") tree_ports tree_branches
     ∷ trees.stream (codes "z") (5 ∷ 3 ∷ 1 ∷ 8 ∷ 10 ∷ []) (branch 3 0 1 ∷ []) ∷ [])
     (flow (codes "f") (5 ∷ 8 ∷ 12 ∷ []) ∷ [])

@@ -1,0 +1,70 @@
+use Rattle.std.specs.Prelude.{◌≡◌, ℕ, List, [], ◌∷◌, ◌++◌, codes, None, Ok}
+use Rattle.ats_topology.specs.Topology.{DeclaredTopology, topology_of}
+use Rattle.ats_streams.specs.Flow.{DeclaredFlow, declared_flow}
+use Rattle.ats_streams.specs.Stream.{DeclaredStream, declared_stream}
+use Rattle.ats_network.specs.Network.{DeclaredNetwork, long_network}
+use Rattle.ats_network_table.specs.declared.format.Format.TheVariants.{Three}
+use Rattle.ats_network_toml.specs.Document.{DeclaredDocument}
+use Rattle.ats_network_toml.specs.Reading.{document_of}
+use Rattle.ats_network_file.specs.Reading.{network_of}
+use Rattle.ats_examples.specs.Networks.{line_links, line_nodes}
+
+-- A network file with a stream and a flow for each port.
+
+-- one bridge between two stations: port 0 leads from s1 to b1, port 1 back, port 2 from b1 to s2, port 3 back
+abbrev pub at_ports_text : List ℕ
+at_ports_text =
+    codes "format = 3\n[[station]]\nname = \"s1\"\n[[station]]\nname = \"s2\"\n[[bridge]]\nname = \"b1\"\n"
+    ++ codes "processing_min_ns = 1000\nprocessing_max_ns = 1000\nresidence_ns = 1000000\n"
+    ++ codes "[[link]]\na = \"s1\"\nb = \"b1\"\nmbps = 1000\npropagation_ns = 500\n"
+    ++ codes "[[link]]\na = \"b1\"\nb = \"s2\"\nmbps = 1000\npropagation_ns = 500\n"
+    ++ codes "[[link_local]]\nname = \"g\"\nclass = 7\nrate_bps = 8800\nburst_bits = 880\nmin_octets = 64\n"
+    ++ codes "max_octets = 90\n[[link_local_flow]]\nname = \"l\"\nmax_octets = 320\n"
+
+-- what its tables declare
+abbrev pub at_ports_document : DeclaredDocument
+at_ports_document = record {
+  format = Three;
+  stations = record { name = codes "s1" } ∷ record { name = codes "s2" } ∷ [];
+  bridges =
+      record { name = codes "b1"; processing_min_ns = 1000; processing_max_ns = 1000; residence_ns = 1000000 } ∷ [];
+  links =
+      record { a = codes "s1"; b = codes "b1"; mbps = 1000; propagation_ns = 500 }
+      ∷ record { a = codes "b1"; b = codes "s2"; mbps = 1000; propagation_ns = 500 } ∷ [];
+  streams = [];
+  link_locals =
+      record {
+        name = codes "g";
+        class = 7;
+        rate_bps = 8800;
+        burst_bits = 880;
+        min_octets = 64;
+        max_octets = 90;
+        deadline_ns = 1000000000;
+      } ∷ [];
+  flows = [];
+  link_local_flows = record { name = codes "l"; max_octets = 320 } ∷ [];
+}
+
+-- the network: a stream and a flow along each port, which leave stations and bridges
+abbrev pub line_topology : DeclaredTopology
+line_topology = topology_of line_nodes line_links
+
+abbrev pub along : List ℕ → ℕ → DeclaredStream
+along name port = declared_stream name (port ∷ []) (7 ∷ []) 8800 880 64 90 1000000000 None
+
+abbrev pub streams : List DeclaredStream
+streams =
+    along (codes "g-0") 0 ∷ along (codes "g-1") 1 ∷ along (codes "g-2") 2 ∷ along (codes "g-3") 3 ∷ []
+
+abbrev pub flows : List DeclaredFlow
+flows =
+    declared_flow (codes "l-0") (0 ∷ []) 320 ∷ declared_flow (codes "l-1") (1 ∷ []) 320
+    ∷ declared_flow (codes "l-2") (2 ∷ []) 320 ∷ declared_flow (codes "l-3") (3 ∷ []) 320 ∷ []
+
+abbrev pub at_ports : DeclaredNetwork
+at_ports = long_network line_topology streams flows
+
+pub record PortsAreRead : Type 0 where
+  pub tables : document_of at_ports_text ≡ Ok at_ports_document
+  pub network : network_of at_ports_text ≡ Ok at_ports
