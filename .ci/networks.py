@@ -38,7 +38,7 @@ class Sender(NamedTuple):
     """A stream or a flow: its name, the numbers of its ports, its class at each of them, and what it declares. A flow
     has class 0, and neither rate nor burst. The ports are those of the path to the first listener, and then for each
     further listener those by which only it is reached of those so far; `branches` has for each of these the place of
-    the first such port, and that of the port before it."""
+    the first such port, and that of the port before it, or None where the talker sends it there."""
 
     name: str
     path: tuple
@@ -60,8 +60,9 @@ class Sender(NamedTuple):
         return [range(*ends) for ends in zip(firsts, firsts[1:])]
 
     def before(self):
-        """For each place but the first that of the port before."""
-        return {place: place - 1 for place in range(1, len(self.path))} | dict(self.branches)
+        """For each place that of the port before; the talker's ports have none."""
+        found = {place: place - 1 for place in range(1, len(self.path))} | dict(self.branches)
+        return {place: before for place, before in found.items() if before is not None}
 
     def routes(self):
         """For each listener the places of the ports on the route there."""
@@ -78,6 +79,13 @@ class Sender(NamedTuple):
     def places(self):
         """Each of its ports with its class there."""
         return list(zip(self.path, self.classes))
+
+
+class Each(NamedTuple):
+    """A table that stands for a stream, or a flow, at each port: its text, and all these."""
+
+    text: str
+    senders: list
 
 
 class Row(NamedTuple):
@@ -186,15 +194,18 @@ def certificate_of(ports, rows):
 
 
 def tree_of(walks, ports):
-    """The ports of walks from one node, of which each further one leaves the others for good, and the branches."""
-    path, branches, reached = list(walks[0]), [], {ports[number].end for number in walks[0]}
+    """The ports of walks from one node, of which each further one leaves the others for good, and the branches. Walks
+    by which a listener would be on the way to another one are left out."""
+    path, branches, reached, lasts = list(walks[0]), [], {ports[number].end for number in walks[0]}, {walks[0][-1]}
     for walk in walks[1:]:
         own = [number for number in walk if number not in path]
-        if not own or reached & {ports[number].end for number in own}:
+        before = walk[len(walk) - len(own) - 1] if len(own) < len(walk) else None
+        if not own or before in lasts or reached & {ports[number].end for number in own}:
             continue
-        branches.append((len(path), path.index(walk[len(walk) - len(own) - 1])))
+        branches.append((len(path), None if before is None else path.index(before)))
         path += own
         reached |= {ports[number].end for number in own}
+        lasts.add(walk[-1])
     return tuple(path), tuple(branches)
 
 
@@ -299,23 +310,29 @@ def declared_in(path):
 
 
 class Network:
-    """A random network: its nodes and links as text, its ports and its stations. Senders are added by those who draw
-    it."""
+    """A random network: its nodes and links as text, its ports, its stations and its nodes. Senders are added by those
+    who draw it, and with them in `of_each` the tables that stand for some at each port."""
 
     # How many bridges there may be, how many stations more, rates and propagations of links, and the greatest
     # processing and the residences of bridges, in nanoseconds.
     BRIDGES, MORE_STATIONS, RATES, PROPAGATIONS = (1, 2, 3, 4), (1, 2), (100, 1000, *RATES), (0, 500)
     PROCESSING, RESIDENCES = (0, 1000, 5000), (100_000, 400_000, 10_000_000)
 
-    # The formats of its file. In format 3 half of the streams have several listeners.
+    # The formats of its file. In format 3 half of the streams have several listeners, and half begin or may end at
+    # bridges. Some networks of it are long lines, and in some there are streams, or flows, at each port.
     FORMATS = (1, 2)
+    LONG, LONG_BRIDGES, OF_EACH_PORT = 0.15, (17, 24, 40), 0.3
 
     def __init__(self, draw):
         self.draw, self.fmt, count = draw, draw.choice(self.FORMATS), draw.choice(self.BRIDGES)
-        self.stations = [f"s{i}" for i in range(count + draw.choice(self.MORE_STATIONS))]
+        self.is_long = self.fmt > 2 and draw.random() < self.LONG
+        count = draw.choice(self.LONG_BRIDGES) if self.is_long else count
+        self.stations = [f"s{i}" for i in range(4 if self.is_long else count + draw.choice(self.MORE_STATIONS))]
         self.bridges = {f"b{i}": self.bridge() for i in range(count)}
-        ends = [(name, f"b{i % count}") for i, name in enumerate(self.stations)]
-        ends += trunk(draw.choice(("line", "tree", "ring")), count)
+        self.nodes, self.of_each = [*self.stations, *self.bridges], []
+        places = (0, count - 1, 1, count // 2) if self.is_long else range(len(self.stations))
+        ends = [(name, f"b{i % count}") for i, name in zip(places, self.stations)]
+        ends += trunk("line" if self.is_long else draw.choice(("line", "tree", "ring")), count)
         links = [(a, b, draw.choice(self.RATES), draw.choice(self.PROPAGATIONS)) for a, b in ends]
         self.text = topology_text(self.fmt, self.stations, self.bridges, links)
         self.ports = ports_of(self.bridges, links)
@@ -327,8 +344,37 @@ class Network:
         return least, most, self.draw.choice(self.RESIDENCES)
 
     def walk(self, ends):
-        """The path of a sender between two stations."""
+        """The path of a sender between two nodes."""
         return least_walk(self.ports, *ends)
+
+    def ends(self, count):
+        """So many different nodes: stations, or in format 3 half of the time bridges too."""
+        nodes = self.nodes if self.fmt > 2 and self.draw.random() < 0.5 else self.stations
+        return self.draw.sample(nodes, min(count, len(nodes)))
+
+    def at_each_port(self, kind, sender):
+        """The streams or flows of a table that stands for one at each port; they are like this one there."""
+        text = f'[[{kind}]]\nname = "{sender.name}"\n{self.numbers_text(sender)}'
+        alike = [sender._replace(name=f"{sender.name}-{number}", path=(number,)) for number in range(len(self.ports))]
+        self.of_each.append(Each(text, alike))
+        return alike
+
+    def streams_at_ports(self):
+        """Streams at each port, as time synchronisation: in format 3 some networks have them, a few of two kinds."""
+        found, draw = [], self.draw
+        for name in ("g", "h"):
+            if self.fmt < 3 or draw.random() >= self.OF_EACH_PORT:
+                break
+            least, most, cls = 64, draw.choice((64, 90, 300)), draw.choice((7, 7, draw.randint(1, 7)))
+            burst = bits_of(most) * draw.choice((1, 1, 2))
+            found += self.at_each_port("link_local", Sender(name, (), (cls,), 8800, burst, least, most))
+        return found
+
+    def flows_at_ports(self):
+        """Flows at each port, as neighbour discovery: in format 3 some networks have them."""
+        if self.fmt < 3 or self.draw.random() >= self.OF_EACH_PORT:
+            return []
+        return self.at_each_port("link_local_flow", Sender("l", (), (0,), None, None, 64, self.draw.randint(64, 2000)))
 
     def ends_of(self, sender):
         """The talker of a sender and its first listener."""
@@ -344,11 +390,10 @@ class Network:
         routes = [[start, *(self.ports[sender.path[at]].end for at in route)] for route in sender.routes()]
         return f"paths = [{', '.join(map(listed, routes))}]"
 
-    def table(self, sender):
-        """The table of a stream or a flow, with one class, or with one at each port where they differ."""
-        kind = "stream" if sender.is_stream() else "flow"
-        text = f'[[{kind}]]\nname = "{sender.name}"\n{self.route_text(sender)}\nmax_octets = {sender.most}\n'
-        if kind == "flow":
+    def numbers_text(self, sender):
+        """The lines that declare a sender's numbers, with one class, or with one at each port where they differ."""
+        text = f"max_octets = {sender.most}\n"
+        if not sender.is_stream():
             return text
         one = len(set(sender.classes)) == 1
         classes = f"class = {sender.classes[0]}" if one else f"classes = {list(sender.classes)}"
@@ -357,9 +402,26 @@ class Network:
             f"deadline_ns = {sender.deadline_ns}\n"
         )
 
+    def table(self, sender):
+        """The table of a stream or a flow."""
+        kind = "stream" if sender.is_stream() else "flow"
+        return f'[[{kind}]]\nname = "{sender.name}"\n{self.route_text(sender)}\n{self.numbers_text(sender)}'
+
+    def tables(self, senders):
+        """The tables of streams, or of flows. A table for each port stands in the place of those that it stands for,
+        where they are the last of all."""
+        texts = []
+        for each in reversed(self.of_each):
+            if each.senders == senders[-len(each.senders) :]:
+                texts.insert(0, each.text)
+                senders = senders[: -len(each.senders)]
+        return "".join([*map(self.table, senders), *texts])
+
     def file(self, senders):
         """The text of the network file with these senders."""
-        return self.text + "".join(self.table(sender) for sender in senders)
+        senders = list(senders)
+        streams, flows = ([it for it in senders if it.is_stream() == kind] for kind in (True, False))
+        return self.text + self.tables(streams) + self.tables(flows)
 
 
 class Varied(Network):
@@ -375,17 +437,19 @@ class Varied(Network):
     def __init__(self, draw):
         super().__init__(draw)
         self.senders = [self.stream(f"s{k}") for k in range(draw.randint(*self.STREAMS))]
+        self.senders += self.streams_at_ports()
         self.senders += [self.flow(f"f{k}") for k in range(draw.randint(*self.FLOWS))]
+        self.senders += self.flows_at_ports()
 
     def way(self):
-        """The path between two stations."""
-        return self.walk(self.draw.sample(self.stations, 2))
+        """The path between two nodes."""
+        return self.walk(self.ends(2))
 
     def tree(self):
         """The ports of a stream, and its branches: to one listener, or in format 3 half of the time to several."""
         if self.fmt < 3 or self.draw.random() < 0.5:
             return self.way(), ()
-        start, *ends = self.draw.sample(self.stations, self.draw.randint(2, len(self.stations)))
+        start, *ends = self.ends(self.draw.randint(2, len(self.stations)))
         return tree_of([self.walk((start, end)) for end in ends], self.ports)
 
     def stream(self, name):

@@ -28,10 +28,16 @@ def keeps(sender, rows):
     return sizes and (not sender.is_stream() or conforms(sender, frames))
 
 
-def keeping_stations(ports, senders, rows):
-    """The stations that keep their buckets: each of their senders keeps what it declares."""
+def keeping_nodes(ports, senders, rows):
+    """The nodes that keep their buckets: each sender that begins there keeps what it declares, and where none begins
+    there is nothing to keep."""
     broken = {ports[sender.path[0]].start for sender in senders if not keeps(sender, rows)}
-    return {ports[sender.path[0]].start for sender in senders} - broken
+    return {port.start for port in ports} - broken
+
+
+def nodes_along(ports, sender, route):
+    """The nodes that the ports of a route leave, given by their places: the talker, and the bridges on the way."""
+    return [ports[sender.path[at]].start for at in route]
 
 
 def kept_releases(draw, sender, span, most=12):
@@ -155,7 +161,7 @@ def peaks_of(network, journeys):
 
 
 class PeakJudge:
-    """What is found against the lines of `buffers` beside a run. `good` are the stations that keep their buckets."""
+    """What is found against the lines of `buffers` beside a run. `good` are the nodes that keep their buckets."""
 
     def __init__(self, network, good, journeys, lines, count):
         self.network, self.good, self.found = network, good, []
@@ -171,10 +177,19 @@ class PeakJudge:
     def row(self, port, cls, buffer, peak, count):
         """The row of a port and a class."""
         number = next(k for k, it in enumerate(self.network.ports) if it.name() == port)
-        talkers = {self.network.ends_of(it)[0] for it in self.network.senders if (number, cls) in it.places()}
-        if not talkers <= self.good:
+        if not self.asked(number, cls) <= self.good:
             count.above += peak > buffer
             return
         if peak > buffer:
             self.found.append(f"the peak of {port} in class {cls} is {peak}, above its buffer {buffer}")
         count.peaks, count.fullest = count.peaks + 1, max(count.fullest, peak / buffer)
+
+    def asked(self, number, cls):
+        """The nodes that have to keep their buckets for a port's buffer of a class: the talkers of the class there, and
+        the nodes that the port, and the port before it on their routes, leaves."""
+        found, ports = set(), self.network.ports
+        for sender in (it for it in self.network.senders if (number, cls) in it.places()):
+            at = sender.places().index((number, cls))
+            before = sender.before().get(at, at)
+            found |= {self.network.ends_of(sender)[0], *nodes_along(ports, sender, (before, at))}
+        return found

@@ -20,11 +20,15 @@ FOLDERS = [os.path.join(HERE, "reporting"), os.path.join(os.path.dirname(HERE), 
 
 NAME = re.compile(r"[A-Za-z0-9_-]{1,32}")
 KEYS = {
-    "top": ["format", "station", "bridge", "link", "stream", "flow"],
+    "top": ["format", "station", "bridge", "link", "stream", "link_local", "flow", "link_local_flow"],
     "station": ["name"],
     "link": ["a", "b", "mbps", "propagation_ns"],
+    "link_local": ["name", "class", "rate_bps", "burst_bits", "min_octets", "max_octets", "deadline_ns"],
     "flow": ["name", "path", "from", "to", "max_octets"],
+    "link_local_flow": ["name", "max_octets"],
 }
+# The tables of format 3 alone that stand for a stream, or a flow, at each port, and those of such streams and flows.
+OF_EACH_PORT = {"link_local": "stream", "link_local_flow": "flow"}
 SPREAD_KEYS = ["name", "processing_min_ns", "processing_max_ns", "residence_ns"]
 BEHIND_ROUTES = [
     "class", "classes", "rate_bps", "burst_bits", "min_octets", "max_octets", "deadline_ns", "address", "vlan",
@@ -54,8 +58,11 @@ RANGES = {
 MOST_NAMED = 8
 RATES = "10, 100, 1000, 2500, 5000, 10000, 25000, 40000, 50000 or 100000"
 MOST_NESTED = 80
-MOST_LINKS = 16
+# The most links of a route, by the format.
+MOST_LINKS = {1: 16, 2: 16, 3: 64}
 MOST_STREAMS = 4096
+MOST_FLOWS = 4096  # with those of each port
+LONGEST_NAMES = {"link_local": 26, "link_local_flow": 26}  # elsewhere 32
 MOST_PORTS = 65536
 MOST_REQUESTS = 10000
 HEADERS = {"CERT": "port,class,higher,equal,bursts,lower,least,wait,bound", "SCHEDULE": "at_ps,sender,octets"}
@@ -169,6 +176,8 @@ def entry_of(document, table, number):
 
 
 def keys_of(document, table):
+    if table == "top" and document.get("format") != 3:
+        return [key for key in KEYS["top"] if key not in OF_EACH_PORT]
     return FORMAT_KEYS[table].get(document.get("format"), []) if table in FORMAT_KEYS else KEYS[table]
 
 
@@ -186,6 +195,8 @@ def unknown_key(document, table, number):
     for key in entry_of(document, table, number):
         if key not in keys:
             listed = "; its keys are " + ", ".join(keys)
+            if table == "top" and key in OF_EACH_PORT:
+                return f"{key} stands in format 3 alone, and format is {shown(document.get('format'))}"
             if any(key in others for others in FORMAT_KEYS.get(table, {}).values()):
                 return f"the key {key} is not one of format {document.get('format')}{listed}"
             if table != "top" and key in KEYS["top"]:
@@ -207,9 +218,10 @@ def missing_format(document):
                 due = "put it before the first table"
                 return f"format stands behind [[{table}]] and so belongs to {table} {number}: {due}"
     due = "the file begins with format = 1, or 2 where bridges have two processing times, or 3 where a stream has"
-    due += " several listeners"
+    due += " several listeners, bridges send or take frames, or tables stand for each port"
     empty = "" if document else "nothing is declared, as where what was to write the file did not; "
-    return unknown_key(document, "top", 0) or empty + due
+    others = {key: value for key, value in document.items() if key not in OF_EACH_PORT}
+    return unknown_key(others, "top", 0) or empty + due
 
 
 DUE = {
@@ -238,13 +250,14 @@ def missing_key(document, table, number, key):
     return who_is(document, table, number) + (f"; {due}" if due else "")
 
 
-def letters(name):
+def letters(name, table=None):
     if not isinstance(name, str):
         return f"{shown(name)} is no text in quotes"
     others = sorted({letter for letter in name if not NAME.fullmatch(letter)})
     if others:
         return f"{shown(name)} has {', '.join(map(shown, others))}: a name has ASCII letters, digits, _ and - alone"
-    return f"{shown(name)} has {len(name)} letters: a name has 1 to 32"
+    room = ", as the number of a port follows" if table in LONGEST_NAMES else ""
+    return f"{shown(name)} has {len(name)} letters: a name has 1 to {LONGEST_NAMES.get(table, 32)}{room}"
 
 
 def wrong_name(names):
@@ -308,7 +321,7 @@ def wrong_kind(document, table, number, key):
     if table == "top" and isinstance(value, dict):
         return f"[{key}] has to be [[{key}]], with two pairs of brackets"
     if key in ("name", "a", "b"):
-        return letters(value)
+        return letters(value, table)
     if key == "from":
         told = letters(value)
     elif key == "to":
@@ -345,6 +358,19 @@ def over_a_limit(document):
                     who = joined(entry) if table == "link" else entry.get("name")
                     return f"{key} of {table} {number} ({who}) is {value}; the most is {RANGES[key][1]}"
     return None
+
+
+def over_in_all(document, table):
+    """Of what there are too many where streams, or flows, are together too many, or the ports of streams."""
+    kind = OF_EACH_PORT.get(table, table)
+    most, alone = MOST_FLOWS if kind == "flow" else MOST_STREAMS, len(document.get(kind, []))
+    entries, ports = len(document.get(table, [])), 2 * len(document.get("link", []))
+    if table in OF_EACH_PORT and alone + entries * ports > most:
+        told = f"{entries} tables [[{table}]] for {ports} ports each, and {alone} [[{kind}]], are together"
+        return f"{told} {alone + entries * ports} {kind}s; the most are {most}"
+    if alone > most:
+        return f"there are {alone} tables [[{kind}]]"
+    return f"the streams have together more than {MOST_PORTS} ports"
 
 
 def link_fault(document, fault, number):
@@ -393,9 +419,11 @@ def bad_way(document, path, by_ends):
     for place, name in enumerate(path):
         if path.index(name) < place:
             return "from and to are the same" if by_ends else f"its path visits {name} twice"
-        if (name in stations) != (place in (0, len(path) - 1)):
-            kind = "station" if name in stations else "bridge"
-            return f"{name} is a {kind}: stations stand at both ends and nowhere else"
+        is_end = place in (0, len(path) - 1)
+        if name in stations and not is_end:
+            return f"{name} is a station: stations stand at ends and nowhere else"
+        if name not in stations and is_end and document["format"] < 3:
+            return f"{name} is a bridge: stations stand at both ends and nowhere else"
     links = links_of(document)
     for before, after in zip(path, path[1:]):
         if not by_ends and frozenset((before, after)) not in links:
@@ -417,6 +445,10 @@ def no_tree(routes):
             if known.setdefault(there, here) != here:
                 return f"{there} is reached in two ways, from {known[there]} and from {here}"
         before.append(route[-1])
+    for route in routes:
+        passed = next((name for name in route[:-1] if name in before), None)
+        if passed:
+            return f"its listener {passed} is on the way to {route[-1]}"
     return None
 
 
@@ -424,8 +456,40 @@ def bad_path(document, table, number):
     entry, who = entry_of(document, table, number), who_is(document, table, number)
     by_ends = "path" not in entry and "paths" not in entry
     told = [bad_way(document, path, by_ends) for path in ways_of(entry)]
-    found = next(filter(None, told), None) or no_tree(ways_of(entry))
+    found = next(filter(None, told), None)
+    if not found:
+        found = no_tree([route_between(document, *ends) if by_ends else ends for ends in ways_of(entry)])
     return f"{who}; {found}" if found else who
+
+
+def ports_in(document):
+    """The ports of the links, in order, each as it is written."""
+    ends = [(link["a"], link["b"]) for link in document.get("link", [])]
+    return [f"{a}>{b}" for one, other in ends for a, b in ((one, other), (other, one))]
+
+
+def names_of(document, table):
+    """The names of an array of streams or flows, each with its table; of a table for each port all those there."""
+    count = len(ports_in(document)) if table in OF_EACH_PORT else None
+    for entry in document.get(table, []):
+        ends = [""] if count is None else [f"-{number}" for number in range(count)]
+        yield from ((f"{entry['name']}{end}", entry) for end in ends)
+
+
+def senders_of(document):
+    """The names of streams and then flows, each with its table."""
+    tables = ("stream", "link_local", "flow", "link_local_flow")
+    return [named for table in tables for named in names_of(document, table)]
+
+
+def taken_name(document, table, number):
+    """The name that an earlier stream or flow has, of those for which an entry stands."""
+    before, own = {}, entry_of(document, table, number)
+    for name, entry in senders_of(document):
+        if entry is own and name in before:
+            return name
+        before[name] = entry
+    return own["name"]
 
 
 def links_of(document):
@@ -469,9 +533,11 @@ def rate_told(bits):
 
 def rates_at(document, port, cls):
     """The streams that have a class or a higher one at a port, with their rates, the greatest first."""
-    found = [it for it in document.get("stream", []) if classes_at(document, it).get(port, 0) >= cls]
-    found.sort(key=lambda it: -it["rate_bps"])
-    told = [f"{it['name']} ({rate_told(it['rate_bps'])})" for it in found]
+    found = [(it["name"], it) for it in document.get("stream", []) if classes_at(document, it).get(port, 0) >= cls]
+    number = ports_in(document).index(port)
+    found += [(f"{it['name']}-{number}", it) for it in document.get("link_local", []) if it["class"] >= cls]
+    found.sort(key=lambda it: -it[1]["rate_bps"])
+    told = [f"{name} ({rate_told(it['rate_bps'])})" for name, it in found]
     return ", ".join(told[:MOST_NAMED]) + (f" and {len(told) - MOST_NAMED} more" if len(told) > MOST_NAMED else "")
 
 
@@ -490,7 +556,7 @@ RULES = {
     "bad-class": f"a class is {range_of('class')}",
     "bad-rate": f"a rate is {range_of('rate_bps')} b/s",
     "bad-sizes": f"octets are {range_of('max_octets')}, and the least not above the greatest",
-    "limit": f"the most are {MOST_LINKS} links, {RANGES['burst_bits'][1]} bits and {RANGES['deadline_ns'][1]} ns",
+    "limit": f"{RANGES['burst_bits'][1]} bits and {RANGES['deadline_ns'][1]} ns",
 }
 
 
@@ -502,10 +568,20 @@ def most_links(document, entry):
     return max(far[listener] for listener in listeners_of(entry))
 
 
+def limit_of(document, entry):
+    """What the limits of an entry are, and how many links its longest route has, where these are too many."""
+    if not {"path", "paths", "from"} & entry.keys():
+        return f"the most are {RULES['limit']}"
+    most, links = MOST_LINKS[document["format"]], most_links(document, entry)
+    longest = f"its longest route has {links} links; " if links > most else ""
+    where = " (64 in format 3)" if longest and links <= MOST_LINKS[3] else ""
+    return f"{longest}the most are {most} links{where}, {RULES['limit']}"
+
+
 def due_of(document, entry, fault):
     """What an entry has to keep that breaks a rule."""
-    if fault == "limit" and (links := most_links(document, entry)) > MOST_LINKS:
-        return f"its longest route has {links} links; {RULES[fault]}"
+    if fault == "limit":
+        return limit_of(document, entry)
     if fault == "burst-below-frame":
         return f"the burst is at least {8 * (entry['max_octets'] + 20)}"
     if fault == "bad-class" and "classes" in entry:
@@ -515,9 +591,9 @@ def due_of(document, entry, fault):
     return RULES[fault]
 
 
-def breaks_limit(entry, key):
+def breaks_limit(document, entry, key):
     if key in ("path", "paths"):
-        return any(len(path) > MOST_LINKS + 1 for path in ways_of(entry))
+        return any(len(path) > MOST_LINKS[document["format"]] + 1 for path in ways_of(entry))
     return not RANGES[key][0] <= entry[key] <= RANGES[key][1]
 
 
@@ -530,7 +606,7 @@ def sender_fault(document, table, number, fault):
         "burst-below-frame": ["burst_bits", "max_octets"],
         "limit": ["path", "paths", "burst_bits", "deadline_ns"],
     }[fault]
-    keys = [key for key in keys if key in entry and (fault != "limit" or breaks_limit(entry, key))]
+    keys = [key for key in keys if key in entry and (fault != "limit" or breaks_limit(document, entry, key))]
     has = ", ".join(f"{key} {shown(entry[key])}" for key in keys)
     return f"{who_is(document, table, number)}{', with ' + has if has else ''}; {due_of(document, entry, fault)}"
 
@@ -550,8 +626,8 @@ def network_hint(raw, words):
             return rates_at(document, port, int(cls))
         case ["limit"]:
             return over_a_limit(document)
-        case ["limit", "stream"] if len(document["stream"]) <= MOST_STREAMS:
-            return f"the streams have together more than {MOST_PORTS} ports"
+        case ["limit", ("stream" | "link_local" | "link_local_flow") as table]:
+            return over_in_all(document, table)
         case ["limit", table]:
             return f"there are {len(document[table])} tables [[{table}]]"
         case ["unknown", table, number]:
@@ -565,7 +641,7 @@ def network_hint(raw, words):
         case ["bad-path", table, number]:
             return bad_path(document, table, int(number))
         case ["sender-twice", table, number]:
-            return f"an earlier one is called {shown(entry_of(document, table, int(number))['name'])} too"
+            return f"an earlier one is called {shown(taken_name(document, table, int(number)))} too"
         case ["identity-twice", number]:
             streams = document["stream"][: int(number)]
             last = identity(streams[-1])
@@ -592,15 +668,17 @@ def no_sender(name, document):
     """What stands in the place of a stream or flow in a schedule."""
     if name in nodes_of(document):
         return f"; {shown(name)} is a node: a stream or flow is due there"
-    senders = [sender["name"] for table in ("stream", "flow") for sender in document.get(table, [])]
+    senders = [sender for sender, _ in senders_of(document)]
+    for table in OF_EACH_PORT:
+        if any(entry["name"] == name for entry in document.get(table, [])) and document.get("link"):
+            count = 2 * len(document["link"])
+            return f"; {shown(name)} stands for a {OF_EACH_PORT[table]} at each port: {name}-0 to {name}-{count - 1}"
     return f"; no stream or flow is called {shown(name)}{near(name, senders)}"
 
 
 def no_port(port, document):
     """What stands in the place of a port in a certificate."""
-    ends = [(link["a"], link["b"]) for link in document.get("link", [])]
-    ports = [f"{a}>{b}" for one, other in ends for a, b in ((one, other), (other, one))]
-    return f"; no port is called {shown(port)}{near(port, ports)}"
+    return f"; no port is called {shown(port)}{near(port, ports_in(document))}"
 
 
 LIMITS_OF_RELEASES = (
@@ -658,8 +736,7 @@ def refused_frames(raw, fault, words, net):
 
 def sizes_of(name, document):
     """The octets that frames of a stream or flow may have."""
-    senders = [sender for table in ("stream", "flow") for sender in document.get(table, [])]
-    sender = next(sender for sender in senders if sender["name"] == name)
+    sender = next(sender for called, sender in senders_of(document) if called == name)
     return f"{sender.get('min_octets', RANGES['max_octets'][0])} to {sender['max_octets']} octets"
 
 
@@ -667,10 +744,11 @@ def limit_of_request(words, document):
     """Which limit a request is over."""
     if words[0] == "admit":
         links = distances(words[2], links_of(document)).get(words[3], 0)
-        if links > MOST_LINKS:
-            return f"its route has {links} links; {RULES['limit']}"
+        most = f"the most are {MOST_LINKS[document['format']]} links, {RULES['limit']}"
+        if links > MOST_LINKS[document["format"]]:
+            return f"its route has {links} links; {most}"
         if not 1 <= int(words[9]) <= RANGES["deadline_ns"][1] or int(words[6]) > RANGES["burst_bits"][1]:
-            return f"{RULES['limit']}, and a deadline is at least 1 ns"
+            return f"{most}, and a deadline is at least 1 ns"
     return f"the most are {MOST_REQUESTS} requests"
 
 

@@ -5,7 +5,7 @@ from typing import NamedTuple
 
 from second.bounds import least_certificate, sum_to
 from second.common import MOST_BYTES, MOST_PORTS, Fault, Refusal, is_name, lines_of, lines_that_speak, number
-from second.networks import MOST, Network, Sender, stream_fault
+from second.networks import MOST, Sender, stream_fault
 
 MOST_REQUESTS = 10_000
 LOWEST = "lowest"
@@ -24,22 +24,22 @@ def short_number(text):
     return number(text) if len(text) <= 18 else None
 
 
-def admitted_stream(topology, name, ends, numbers):
+def admitted_stream(network, name, ends, numbers):
     """The stream that a line asks to admit, or its first fault but for that of its words."""
-    if not set(ends) <= topology.stations:
+    if not set(ends) <= network.topology.stations:
         raise Fault("unknown-node")
-    ports = topology.route(*ends)
+    ports = network.topology.route(*ends)
     if not ports:
         raise Fault("no-path")
     traffic_class, rate, burst, least, greatest, deadline = numbers
     stream = Sender(name, ports, (traffic_class,) * len(ports), least, greatest, rate, burst, 1000 * deadline)
-    fault = stream_fault(ports, (traffic_class,), stream, deadline)
+    fault = stream_fault(ports, (traffic_class,), stream, deadline, network.longest)
     if fault:
         raise Fault(fault)
     return stream
 
 
-def request_of(topology, words):
+def request_of(network, words):
     """The request that the words of a line make, or its first fault."""
     verb, name, *rest = words if len(words) > 1 else ("", "")
     if not is_name(name) or (verb, len(rest)) not in (("withdraw", 0), ("admit", 8)):
@@ -50,7 +50,7 @@ def request_of(topology, words):
     numbers = [1 if traffic_class == LOWEST else short_number(traffic_class), *map(short_number, rest[3:])]
     if None in numbers:
         raise Fault("bad-line")
-    return Request(name, admitted_stream(topology, name, ends, numbers), traffic_class == LOWEST)
+    return Request(name, admitted_stream(network, name, ends, numbers), traffic_class == LOWEST)
 
 
 def requests_of(network, data):
@@ -60,7 +60,7 @@ def requests_of(network, data):
     requests = []
     for count, words in lines_that_speak(lines_of(data)):
         try:
-            requests.append(request_of(network.topology, words))
+            requests.append(request_of(network, words))
         except Fault as fault:
             raise Fault(f"{fault} {count}") from None
         if len(requests) > MOST_REQUESTS:
@@ -70,7 +70,7 @@ def requests_of(network, data):
 
 def with_stream(network, stream):
     """The network with a stream more, as the last one."""
-    return Network(network.topology, [*network.streams, stream], network.flows)
+    return replace(network, streams=[*network.streams, stream])
 
 
 def admitted(network, stream):
@@ -99,7 +99,7 @@ def answer(network, request):
         rest = [it for it in network.streams if it.name != request.name]
         if len(rest) == len(network.streams):
             return network, [f"denied {request.name} name-unknown"]
-        return Network(network.topology, rest, network.flows), [f"withdrawn {request.name}"]
+        return replace(network, streams=rest), [f"withdrawn {request.name}"]
     if any(it.name == request.name for it in network.senders):
         return network, [f"denied {request.name} name-taken"]
     ports = sum(len(stream.ports) for stream in [*network.streams, request.stream])

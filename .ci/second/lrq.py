@@ -5,7 +5,6 @@ from dataclasses import replace
 
 from second.common import SECOND, quotient_up, wire_bits
 from second.groups import ELIGIBLE, LATE, SIZE, is_declared_size
-from second.networks import Network
 
 
 class Regulator:
@@ -32,4 +31,4 @@ class Regulator:
 def narrowed(network):
     """The network with the wire bits of each stream's longest frame as its burst."""
     streams = [replace(stream, burst=wire_bits(stream.greatest)) for stream in network.streams]
-    return Network(network.topology, streams, network.flows)
+    return replace(network, streams=streams)

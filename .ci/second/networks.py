@@ -13,8 +13,11 @@ from functools import cached_property, lru_cache
 from second.common import MOST_BYTES, MOST_PORTS, Fault, Unjudged, first_of, is_name, rules_of_stream
 
 MBPS = (10, 100, 1000, 2500, 5000, 10000, 25000, 40000, 50000, 100000)
-ARRAYS = ("station", "bridge", "link", "stream", "flow")
+ARRAYS = ("station", "bridge", "link", "stream", "link_local", "flow", "link_local_flow")
 MOST = {"station": 1024, "bridge": 1024, "link": 2048, "stream": 4096, "flow": 1024}
+MOST_IN_ALL = 4096  # streams, and flows, with those of each port
+OF_EACH_PORT = {"link_local": "stream", "link_local_flow": "flow"}
+LONGEST_NAME = 26  # of those that stand for a sender at each port
 STREAM = "name path paths from to class classes rate_bps burst_bits min_octets max_octets deadline_ns address vlan"
 KEYS = {
     "top": ["format", *ARRAYS],
@@ -22,6 +25,8 @@ KEYS = {
     "link": ["a", "b", "mbps", "propagation_ns"],
     "stream": STREAM.split(),
     "flow": ["name", "path", "from", "to", "max_octets"],
+    "link_local": "name class rate_bps burst_bits min_octets max_octets deadline_ns".split(),
+    "link_local_flow": ["name", "max_octets"],
 }
 BRIDGES = {
     1: ["name", "processing_ns", "residence_ns"],
@@ -33,6 +38,7 @@ NARROW = ("processing_ns", "processing_min_ns", "processing_max_ns", "residence_
 ADDRESS = re.compile("[0-9A-Fa-f]{2}(?::[0-9A-Fa-f]{2}){5}")
 NEWER = re.compile(r"\\[ex]|\{|(?<![:\w])\d\d:\d\d(?![:\w])")
 MOST_NESTED = 80
+LONGEST = {1: 16, 2: 16, 3: 64}  # the most links of a route, by the format
 MOST_DEADLINE = 10**9  # nanoseconds
 
 
@@ -65,7 +71,7 @@ class Sender:
 
     The ports are those of the path to the first listener, and then for each further listener those that lead there and
     to no listener before it. `branches` has for each further listener the place of the first of these among all ports,
-    and the place of the port that leads to the bridge from where they go on."""
+    and the place of the port that leads to the bridge from where they go on, or None where this is the talker."""
 
     name: str
     ports: tuple
@@ -91,8 +97,14 @@ class Sender:
 
     @cached_property
     def before(self):
-        """For each place but the first that of the port before."""
-        return {place: place - 1 for place in range(1, len(self.ports))} | dict(self.branches)
+        """For each place that of the port before; the talker's ports have none."""
+        found = {place: place - 1 for place in range(1, len(self.ports))} | dict(self.branches)
+        return {place: before for place, before in found.items() if before is not None}
+
+    @cached_property
+    def starts(self):
+        """The places of the ports that leave the talker."""
+        return [place for place in range(len(self.ports)) if place not in self.before]
 
     @cached_property
     def onward(self):
@@ -126,11 +138,12 @@ class Sender:
 
 @dataclass
 class Topology:
-    """Stations, bridges in their order, and the ports between nodes."""
+    """Stations, bridges in their order, the ports between nodes, and the nodes at which routes may begin and end."""
 
     stations: set
     bridges: list
     ports: list
+    ends: set
     distances: dict = field(default_factory=dict)
 
     @cached_property
@@ -168,9 +181,9 @@ class Topology:
         return tuple(walk) if node == end else None
 
     def is_valid(self, nodes):
-        """Whether a path over these nodes begins and ends at different stations and visits no node twice."""
+        """Whether a path over these nodes begins and ends at different ones where it may, and visits no node twice."""
         ends = {nodes[0], nodes[-1]}
-        return len(ends) == 2 and ends <= self.stations and len(set(nodes)) == len(nodes)
+        return len(ends) == 2 and ends <= self.ends and len(set(nodes)) == len(nodes)
 
     def nodes_of(self, walk):
         """The nodes that a walk of one port or more visits."""
@@ -184,6 +197,7 @@ class Network:
     topology: Topology
     streams: list
     flows: list
+    longest: int  # the most links of a route
 
     @property
     def ports(self):
@@ -286,7 +300,7 @@ def is_path(value):
     return are(value, is_named) and len(value) >= 2
 
 
-def is_of_kind(key, entry, has_routes):
+def is_of_kind(key, table, entry, has_routes):
     """Whether what stands with a key of a table is of the kind that is asked there; some have several routes."""
     value = entry[key]
     if key == "to" and has_routes and isinstance(value, list):
@@ -296,7 +310,7 @@ def is_of_kind(key, entry, has_routes):
     if key in ARRAYS:
         return are_tables(value)
     if key in ("name", "a", "b", "from", "to"):
-        return is_named(value)
+        return is_named(value) and (table not in OF_EACH_PORT or len(value) <= LONGEST_NAME)
     if key == "path":
         return is_path(value) and not ({"from", "to"} | ({"paths"} if has_routes else set())) & set(entry)
     if key == "classes":
@@ -307,45 +321,53 @@ def is_of_kind(key, entry, has_routes):
     return is_whole(value, *ranges.get(key, (0, 2**32 - 1 if key in NARROW else 2**63 - 1)))
 
 
-def is_missing(key, table, entry, has_routes):
+def is_missing(key, table, entry, keys):
     """Whether a key has to stand in a table and does not."""
     if key in entry or key in ("classes", "deadline_ns", "paths") or table == "top" and key != "format":
         return False
     if key in PARTNER:
         return PARTNER[key] in entry
     if key == "path":
-        return not ({"from", "to"} | ({"paths"} if has_routes else set())) & set(entry)
-    return key != "class" or "classes" not in entry
+        return not ({"from", "to"} | ({"paths"} & set(keys))) & set(entry)
+    return key != "class" or "classes" not in keys or "classes" not in entry
 
 
 def judge_form(table, count, entry, keys):
     """Names the first fault of form of one table, if it has one."""
     has_routes = "paths" in keys
-    missing = next((key for key in keys if is_missing(key, table, entry, has_routes)), None)
+    missing = next((key for key in keys if is_missing(key, table, entry, keys)), None)
     if missing:
         raise Fault(f"missing {table} {count} {missing}")
     if set(entry) - set(keys):
         raise Fault(f"unknown {table} {count}")
-    wrong = next((key for key in keys if key in entry and not is_of_kind(key, entry, has_routes)), None)
+    wrong = next((key for key in keys if key in entry and not is_of_kind(key, table, entry, has_routes)), None)
     if wrong:
         raise Fault(f"kind {table} {count} {wrong}")
 
 
+def is_over(table, tree):
+    """Whether an array has more entries than it may, or stands for more senders than there may be in all."""
+    counts = {name: len(tree.get(name, [])) for name in ARRAYS}
+    if table in OF_EACH_PORT:
+        return counts[OF_EACH_PORT[table]] + 2 * counts["link"] * counts[table] > MOST_IN_ALL
+    return counts[table] + (counts["station"] if table == "bridge" else 0) > MOST[table]
+
+
 def judge_array(table, tree):
     """Names the first fault of form of an array of tables, if it has one."""
-    entries = tree.get(table, [])
-    if len(entries) + (len(tree.get("station", [])) if table == "bridge" else 0) > MOST[table]:
+    if is_over(table, tree):
         raise Fault(f"limit {table}")
-    keys = BRIDGES[tree.get("format", 1)] if table == "bridge" else KEYS[table]
-    if tree.get("format") != 3:
+    keys = BRIDGES[tree["format"]] if table == "bridge" else KEYS[table]
+    if tree["format"] != 3:
         keys = [key for key in keys if key != "paths"]
-    for count, entry in enumerate(entries, 1):
+    for count, entry in enumerate(tree.get(table, []), 1):
         judge_form(table, count, entry, keys)
 
 
 def judge_forms(tree):
     """Names the first fault of form of all tables, if they have one."""
-    judge_form("top", 0, tree, KEYS["top"])
+    is_third = type(tree.get("format")) is int and tree["format"] == 3
+    judge_form("top", 0, tree, [key for key in KEYS["top"] if is_third or key not in OF_EACH_PORT])
     for table in ARRAYS:
         judge_array(table, tree)
 
@@ -401,11 +423,13 @@ def topology_of(tree):
         latencies = [1000 * (link["propagation_ns"] + it) for it in (greatest, least)]
         stay = None if residence is None else 1000 * residence
         ports.append(Port(len(ports), leaves, leads_to, 10**6 // link["mbps"], *latencies, stay))
-    return Topology({node["name"] for node in stations}, [node["name"] for node in bridges], ports)
+    names = {node["name"] for node in stations}
+    ends = names | set(times) if tree["format"] == 3 else names
+    return Topology(names, [node["name"] for node in bridges], ports, ends)
 
 
 def route_between(topology, start, end):
-    """The ports of the shortest route from one station to another, or None where there is none."""
+    """The ports of the shortest route from one node to another, or None where there is none."""
     walk = topology.route(start, end)
     return walk if walk and topology.is_valid(topology.nodes_of(walk)) else None
 
@@ -428,32 +452,36 @@ def tree_of_routes(topology, routes):
     """The ports of a tree of routes, in the order of its legs, and its branches; or None where they make no tree."""
     if None in routes:
         return None
-    ports, places, branches = [], {}, []
-    reached = {topology.ports[routes[0][0]].leaves}
+    ports, places, branches, lasts = [], {}, [], set()
+    talker = topology.ports[routes[0][0]].leaves
+    reached = {talker}
     for route in routes:
         shared = next((place for place, number in enumerate(route) if number not in places), len(route))
         own = [topology.ports[number].leads_to for number in route[shared:]]
-        if (shared == 0) != (not ports) or not own or not reached.isdisjoint(own):
+        if topology.ports[route[0]].leaves != talker or not own or not reached.isdisjoint(own):
+            return None
+        if shared and route[shared - 1] in lasts:  # a listener is on the way to another
             return None
         if ports:
-            branches.append((len(ports), places[route[shared - 1]]))
+            branches.append((len(ports), places[route[shared - 1]] if shared else None))
         for number in route[shared:]:
             places[number] = len(ports)
             ports.append(number)
         reached.update(own)
+        lasts.add(route[-1])
     return tuple(ports), tuple(branches)
 
 
-def stream_fault(ports, classes, sender, deadline):
-    """The first rule that a stream breaks, or None; its classes are as they are given, its deadline in nanoseconds."""
+def stream_fault(ports, classes, sender, deadline, longest):
+    """The first rule that a stream breaks, or None, where a route has so many links at the most; its classes are as
+    they are given, its deadline in nanoseconds."""
     numbers = rules_of_stream(sender.rate, sender.burst, sender.least, sender.greatest)
     right = len(classes) in (1, len(ports)) and all(1 <= it <= 7 for it in classes)
-    longest = max(map(len, sender.routes))
-    limits = [("limit", longest > 16), ("limit", not 1 <= deadline <= MOST_DEADLINE)]
+    limits = [("limit", max(map(len, sender.routes)) > longest), ("limit", not 1 <= deadline <= MOST_DEADLINE)]
     return first_of([("bad-class", not right), *numbers, *limits])
 
 
-def stream_of(topology, entry):
+def stream_of(topology, entry, longest):
     """The stream that a table declares, and the first rule that it breaks, if it breaks one."""
     tree = tree_of_routes(topology, routes_of(topology, entry))
     if tree is None:
@@ -465,24 +493,35 @@ def stream_of(topology, entry):
     identity = (int(entry["address"].replace(":", ""), 16), entry["vlan"]) if "address" in entry else None
     numbers = (entry[key] for key in ("min_octets", "max_octets", "rate_bps", "burst_bits"))
     sender = Sender(entry["name"], ports, classes, *numbers, 1000 * deadline, identity, branches)
-    return sender, stream_fault(ports, given, sender, deadline)
+    return sender, stream_fault(ports, given, sender, deadline, longest)
 
 
-def flow_of(topology, entry):
+def flow_of(topology, entry, longest):
     """The flow that a table declares, and the first rule that it breaks, if it breaks one."""
     (ports,) = routes_of(topology, entry)
     if ports is None:
         return None, "bad-path"
     greatest = entry["max_octets"]
-    rules = [("bad-sizes", not 64 <= greatest <= 2000), ("limit", len(ports) > 16)]
+    rules = [("bad-sizes", not 64 <= greatest <= 2000), ("limit", len(ports) > longest)]
     return Sender(entry["name"], ports, (0,) * len(ports), 64, greatest), first_of(rules)
 
 
-def senders_of(topology, table, entries, names, read):
-    """The senders of an array, whose names are added to those that are taken, or the first fault of one."""
+def entries_of(topology, tree, kind):
+    """The entries of an array of streams or flows, each with its table and number; then what those stand for that
+    stand for one at each port."""
+    (each,) = (table for table, alike in OF_EACH_PORT.items() if alike == kind)
+    yield from ((kind, count, entry) for count, entry in enumerate(tree.get(kind, []), 1))
+    for count, entry in enumerate(tree.get(each, []), 1):
+        for port in topology.ports:
+            there = {"name": f"{entry['name']}-{port.number}", "path": [port.leaves, port.leads_to]}
+            yield each, count, entry | there
+
+
+def senders_of(topology, entries, names, read, longest):
+    """The senders of these entries, whose names are added to those that are taken, or the first fault of one."""
     found, identities, total = [], set(), 0
-    for count, entry in enumerate(entries, 1):
-        sender, fault = read(topology, entry)
+    for table, count, entry in entries:
+        sender, fault = read(topology, entry, longest)
         if fault:
             raise Fault(f"bad-path {table} {count}" if fault == "bad-path" else f"{table} {count} {fault}")
         if sender.name in names:
@@ -490,8 +529,8 @@ def senders_of(topology, table, entries, names, read):
         if sender.identity in identities:
             raise Fault(f"identity-twice {count}")
         total += len(sender.ports)
-        if total > MOST_PORTS and table == "stream":
-            raise Fault("limit stream")
+        if total > MOST_PORTS and not sender.is_flow:
+            raise Fault(f"limit {table}")
         names.add(sender.name)
         identities |= {sender.identity} - {None}
         found.append(sender)
@@ -503,9 +542,10 @@ def network_of(data):
     """The network that the bytes of a file declare, or their first fault."""
     tree = tree_of(data)
     judge_forms(tree)
-    topology, names = topology_of(tree), set()
-    streams = senders_of(topology, "stream", tree.get("stream", []), names, stream_of)
-    return Network(topology, streams, senders_of(topology, "flow", tree.get("flow", []), names, flow_of))
+    topology, names, longest = topology_of(tree), set(), LONGEST[tree["format"]]
+    streams = senders_of(topology, entries_of(topology, tree, "stream"), names, stream_of, longest)
+    flows = senders_of(topology, entries_of(topology, tree, "flow"), names, flow_of, longest)
+    return Network(topology, streams, flows, longest)
 
 
 def port_text(port):

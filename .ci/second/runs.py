@@ -104,7 +104,7 @@ class Run:
         """A frame comes behind the port of a place: to a listener, or to a bridge; or it is released."""
         release = self.releases[frame]
         sender = self.senders[release.sender]
-        onward = sender.onward.get(place, []) if place >= 0 else [0]
+        onward = sender.onward.get(place, []) if place >= 0 else sender.starts
         if not onward:
             leg = self.leg_of(sender, place)
             self.ends[frame][leg] = SINK, now

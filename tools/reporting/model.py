@@ -126,6 +126,11 @@ class Model:
         same = self.listeners[self.shown.streams[number].name]
         return number - same[0] + 1, len(same)
 
+    def bridges_talk(self):
+        """Whether some stream or flow begins at a bridge."""
+        routes = self.shown.streams + self.shown.flows
+        return any(self.shown.ports[it.ports[0]].start in self.bridges for it in routes if not it.listener)
+
     def is_forked(self):
         """Whether some stream has several listeners."""
         return any(route.listener for route in self.shown.streams)
@@ -212,7 +217,7 @@ def users_of(shown):
 
 def ways_of(shown):
     """The ports of each stream's way from its talker on. A further listener's copy begins where a way that the stream
-    has already leaves the same bridge."""
+    has already leaves the same node, a bridge on the way or the talker."""
     ways, by_name = [], {}
     for route in shown.streams:
         start, before = shown.ports[route.ports[0]].start, ()

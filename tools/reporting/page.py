@@ -154,9 +154,12 @@ ROUNDED = (
 # What is asked of senders, where bounds hold.
 PROMISED = (
     ". In a network that is as its file says no frame takes longer, as long as the talker of its stream keeps the "
-    "rates, bursts and sizes that are declared for what it sends. Nothing is asked of others: they may send what they "
-    "like"
+    "rates, bursts and sizes that are declared for what it sends{}. Nothing is asked of others: they may send what "
+    "they like"
 )
+
+# The same of bridges, where some send frames of their own.
+OF_BRIDGES = ", and each bridge on the way those of its own frames"
 
 # What is missing where Python does not read the file.
 NO_FILE = " Rates and bursts stand in the file, which Python could not read here."
@@ -173,10 +176,10 @@ def streams_head(model):
 def streams_part(model, order):
     """The table of all streams."""
     note = "The worst-case delay of a stream is the sum of the bounds of all hops on its way"
-    note += PROMISED if model.rows else ""
+    note += PROMISED.format(OF_BRIDGES if model.bridges_talk() else "") if model.rows else ""
     note += ". Used is the share of the deadline that this is. Streams with the least left stand first."
     if model.is_forked():
-        note += " Each listener has a row, a further one with its station behind the name of the stream."
+        note += " Each listener has a row, a further one with its node behind the name of the stream."
     note += f" Rates and bursts count for each frame {WIRE}." if model.declared.known else NO_FILE
     if any(map(model.is_without_deadline, order)):
         note += " Where the file gives no deadline, one second holds."
@@ -225,7 +228,8 @@ def ports_part(model, most):
     note += "rounded up; best effort is not counted."
     if model.buffers:
         note += " A buffer is the most bits, with preambles and gaps, that frames of the class take there at any time, "
-        note += "as long as their talkers keep what is declared."
+        of_bridges = ", and the bridges that the port and the one before it leave," if model.bridges_talk() else ""
+        note += f"as long as their talkers{of_bridges} keep what is declared."
         note += " Held is the most that there were in the run." if model.run else ""
     return section("load", "Ports", port_table(model), f'<p class="note">{note}</p>', rows_part(model, most))
 

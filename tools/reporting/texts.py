@@ -19,7 +19,7 @@ class Port(NamedTuple):
 
 class Route(NamedTuple):
     """A line `stream`, `listener` or `flow` of `show`: where a sender's frames go, and in which classes. Of a line
-    `listener` the ports are those behind the bridge where its copy begins."""
+    `listener` the ports are those behind the node where its copy begins."""
 
     name: str
     listener: str
@@ -27,7 +27,7 @@ class Route(NamedTuple):
     ports: tuple
 
     def label(self):
-        """How the program names it: a further listener has its station behind the stream's name."""
+        """How the program names it: a further listener has its node behind the stream's name."""
         return f"{self.name} {self.listener}".strip()
 
 
@@ -83,9 +83,13 @@ class Explained(NamedTuple):
     total: Total
 
 
+# The tables that stand for a stream, or a flow, at each port.
+OF_EACH_PORT = {"stream": "link_local", "flow": "link_local_flow"}
+
+
 class Declared(NamedTuple):
-    """What the network's file says that no text repeats: which nodes are bridges, and the tables of senders by name.
-    `known` is false where Python does not read the file."""
+    """What the network's file says that no text repeats: which nodes are bridges, and the tables of senders by name,
+    also of those that a table for each port stands for. `known` is false where Python does not read the file."""
 
     bridges: set
     tables: dict
@@ -158,12 +162,20 @@ def found_delays_of(lines):
     return found
 
 
+def senders_in(tables, kind):
+    """The tables of the streams, or of the flows, of a network's file in their order. A table for each port stands once
+    for each, with the name of the one there."""
+    ports = range(2 * len(tables.get("link", [])))
+    each = [{**it, "name": f"{it['name']}-{at}"} for it in tables.get(OF_EACH_PORT[kind], []) for at in ports]
+    return [*tables.get(kind, []), *each]
+
+
 def declared_in(raw):
     """What a network's file says, whose bytes these are."""
     try:
         tables = tomllib.loads(raw.decode("utf-8-sig"))
         bridges = {it["name"] for it in tables.get("bridge", [])}
-        senders = {it["name"]: it for kind in ("stream", "flow") for it in tables.get(kind, [])}
+        senders = {it["name"]: it for kind in OF_EACH_PORT for it in senders_in(tables, kind)}
     except (ValueError, KeyError, TypeError, RecursionError):
         return Declared(set(), {}, False)
     return Declared(bridges, senders, True)
