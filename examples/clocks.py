@@ -2,9 +2,9 @@
 the burst that each bridge needs, and its residence.
 
 The numbers say by how many parts in a million the clocks of bridges deviate, and in steps of how many picoseconds they
-count; then the same of the talkers, by whose clocks the rates and bursts of NET are kept. Where bridges can only be set
-to multiples of a rate and of a burst, these follow. With NET behind the numbers, it is the network file that is
-printed, with the rates and bursts that bounds have to be asked for.
+count; then the same of the talkers, by whose clocks the rates and bursts of NET are kept. A bridge that sends frames of
+its own is a talker of these. Where bridges can only be set to multiples of a rate and of a burst, these follow. With NET
+behind the numbers, it is the network file that is printed, with the rates and bursts that bounds have to be asked for.
 
 Usage: ats settings NET | python3 clocks.py PPM STEP TALKER_PPM TALKER_STEP [RATE_STEP BURST_STEP] [NET]
 From Python 3.11 on."""
@@ -38,12 +38,13 @@ def of_scheduler(rate, burst, clock, steps):
 def change(settings, kept, clock, steps):
     """Changes the settings of a stream whose talker keeps this rate and burst in true time, and gives what its frames
     keep behind the last bridge, of several last ones the greatest. Each bridge receives from the port that the one
-    before sends to; one that copies has a setting for each port on which it sends, and one scheduler for all."""
+    before sends to; one that copies has a setting for each port on which it sends, and one scheduler for all. A talker
+    that is a bridge may send to several."""
     by_reception = {}
     for it in settings:
         by_reception.setdefault(it["received_from"], []).append(it)
-    first = next(iter(by_reception.keys() - {it["sent_to"] for it in settings}), None)
-    ahead, last = [(first, kept)], []
+    firsts = by_reception.keys() - {it["sent_to"] for it in settings}
+    ahead, last = [(first, kept) for first in firsts or [None]], []
     for port, kept in ahead:
         own = of_scheduler(*kept, clock, steps)
         for it in by_reception.get(port, []):
@@ -57,18 +58,27 @@ def change(settings, kept, clock, steps):
 
 
 def declared(path, settings_of, clock, talker, steps):
-    """The text of a network file with the last rate and burst of each stream in place of its own."""
+    """The text of a network file with the last rate and burst of each stream in place of its own, and of a table for
+    each port, whose frames go on nowhere, those that its talkers keep in true time."""
     with open(path, encoding="utf-8") as file:
         text = file.read()
-    streams = tomllib.loads(text).get("stream", [])
-    kept = [in_true_time(it["rate_bps"], it["burst_bits"], *talker) for it in streams]
-    last = [change(settings_of.get(it["name"], []), own, clock, steps) for it, own in zip(streams, kept)]
+    last = []
+    for kind, it in rated(text):
+        kept = in_true_time(it["rate_bps"], it["burst_bits"], *talker)
+        own = settings_of.get(it["name"], []) if kind == "stream" else []
+        last.append(change(own, kept, clock, steps))
     for key, values in zip(("rate_bps", "burst_bits"), zip(*last)):
         found = iter(values)
         text = re.sub(rf"\b{key}(\s*=\s*)[0-9_]+", lambda match: f"{key}{match[1]}{next(found, 0)}", text)
-    if [(it["rate_bps"], it["burst_bits"]) for it in tomllib.loads(text).get("stream", [])] != last:
+    if [(it["rate_bps"], it["burst_bits"]) for _, it in rated(text)] != last:
         sys.exit("rate_bps or burst_bits stands elsewhere than once in each stream, as in a comment")
     return text
+
+
+def rated(text):
+    """The tables of a network file that have a rate, each with its kind, in the order in which the kinds begin."""
+    tables = tomllib.loads(text)
+    return [(kind, it) for kind in tables if kind in ("stream", "link_local") for it in tables[kind]]
 
 
 def clock_of(ppm, step):

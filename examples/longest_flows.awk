@@ -1,5 +1,5 @@
 # Each port with the octets of the longest flow that crosses it, or 0, from what `ats show NET` and `ats settings NET`
-# print, one behind the other. A port by which a flow goes from station to station is left out: no setting tells of it.
+# print, one behind the other. A port that is the whole route of a flow is left out: no setting tells of it.
 BEGIN { FS = "[ ,]" }
 $1 == "port" { longest[$3] += 0 }
 $1 == "flow" && NF == 4 { untold[$4] = 1 }
