@@ -11,6 +11,8 @@ tables_are_named = record {
   link = refl;
   stream = refl;
   flow = refl;
+  stream_at_ports = refl;
+  flow_at_ports = refl;
 }
 
 topology_keys_are_named : TopologyKeysAreNamed
@@ -21,6 +23,8 @@ topology_keys_are_named = record {
   link = refl;
   stream = refl;
   flow = refl;
+  stream_at_ports = refl;
+  flow_at_ports = refl;
   name = refl;
   processing = refl;
   least_processing = refl;

@@ -12,6 +12,8 @@ pub record TablesAreNamed : Type 0 where
   pub link : table_text table.Link ≡ codes "link"
   pub stream : table_text table.Stream ≡ codes "stream"
   pub flow : table_text table.Flow ≡ codes "flow"
+  pub stream_at_ports : table_text table.LinkLocal ≡ codes "link_local"
+  pub flow_at_ports : table_text table.LinkLocalFlow ≡ codes "link_local_flow"
 
 -- the keys of the top, and those of stations, bridges and links
 pub record TopologyKeysAreNamed : Type 0 where
@@ -21,6 +23,8 @@ pub record TopologyKeysAreNamed : Type 0 where
   pub link : key_text key.Link ≡ codes "link"
   pub stream : key_text key.Stream ≡ codes "stream"
   pub flow : key_text key.Flow ≡ codes "flow"
+  pub stream_at_ports : key_text key.LinkLocal ≡ codes "link_local"
+  pub flow_at_ports : key_text key.LinkLocalFlow ≡ codes "link_local_flow"
   pub name : key_text key.Name ≡ codes "name"
   pub processing : key_text key.ProcessingNs ≡ codes "processing_ns"
   pub least_processing : key_text key.ProcessingMinNs ≡ codes "processing_min_ns"

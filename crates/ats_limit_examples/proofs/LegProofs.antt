@@ -25,6 +25,8 @@ short_routes_are_limited = record {
   else_before = refl;
   of_flow = refl;
   of_flow_over = refl;
+  flow_long = refl;
+  flow_long_over = refl;
   long = refl;
   long_over = refl;
 }

@@ -39,6 +39,8 @@ pub record ShortRoutesAreLimited : Type 0 where
   pub else_before : stream_fault_within 16 (8 ∷ []) (branching 18 17 1) ≡ Some BadClass
   pub of_flow : flow_fault_within 16 (declared_flow (codes "i") (replicate 16 0) 64) ≡ None
   pub of_flow_over : flow_fault_within 16 (declared_flow (codes "i") (replicate 17 0) 64) ≡ Some Limit
+  pub flow_long : flow_fault_within 64 (declared_flow (codes "i") (replicate 64 0) 64) ≡ None
+  pub flow_long_over : flow_fault_within 64 (declared_flow (codes "i") (replicate 65 0) 64) ≡ Some Limit
   pub long : stream_fault_within 64 (1 ∷ []) (branching 127 64 1) ≡ None
   pub long_over : stream_fault_within 64 (1 ∷ []) (branching 128 64 1) ≡ Some Limit
 
