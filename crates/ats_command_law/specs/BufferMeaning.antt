@@ -21,7 +21,8 @@ use Rattle.ats_command_due.specs.Replayed.{IsOneOf}
 use Rattle.ats_command_law.specs.Meaning.{CheckSays, HasNoRows, IsRefused}
 
 -- in each legal run of the network, at every time, a port holds of a class at most so many bits, where each node keeps
--- its buckets at which a stream begins that has the class there, and each bridge from which it goes on towards the port
+-- its buckets at which a stream begins that has the class there, and each bridge that the port, or the port before it
+-- on the stream's routes, leaves
 abbrev pub IsRoomAt : DeclaredNetwork → ℕ → ℕ → ℕ → Type 0
 IsRoomAt network port class bits = (run : List Travel) → IsLegal network run → NodesKeepBuckets network run port class
     → (time : ℕ) → occupancy network run port class time ≤ bits
@@ -65,8 +66,8 @@ BuffersMean = (net certificate net_bytes certificate_bytes : List ℕ)
 
 -- three files of these bytes declare this network, these rows, which hold for it, and these releases. The text gives
 -- the buffers of the rows, and beside them their peaks in this run, in this order and with exactly these releases; a
--- peak is within its buffer, where those nodes keep their buckets at which a stream with that class there begins, or
--- from which it goes on towards the port
+-- peak is within its buffer, where those nodes keep their buckets at which a stream with that class there begins, and
+-- the bridges that the port, or the port before it on the stream's routes, leaves
 pub record ArePeaksOf (net certificate schedule net_bytes certificate_bytes schedule_bytes : List ℕ) (order : Order)
     (text : List ℕ) (network : DeclaredNetwork) (rows : List Row) (releases : List Release) (run : List Travel)
     (peaks : List ℕ) : Type 0 where

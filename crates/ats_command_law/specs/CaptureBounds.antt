@@ -16,8 +16,7 @@ use Rattle.ats_command_law.specs.CaptureMeaning.{IsCapturedRun}
 use Rattle.ats_command_law.specs.ReplayMeaning.{IsWithinBounds}
 
 -- each frame of a stream whose talker keeps its buckets in these releases is within the bounds of these rows. Nothing
--- is
--- asked of bridges: the releases of a capture are all of one station's streams
+-- is asked of bridges: the releases of a capture are all of one station's streams
 abbrev pub CapturedAreWithin : DeclaredNetwork → List Row → List Release → List Travel → Type 0
 CapturedAreWithin network rows releases run = (journey : Travel) → Contains run journey → (stream : DeclaredStream)
     → slice_get network.streams journey.release.sender ≡ Some stream

@@ -82,8 +82,9 @@ pub fn what_settings_answers()
 /// What each answer to `buffers NET CERT` means, by its status. `Done`: the files declare a network and rows that hold
 /// for it, and the text gives the buffer of each row. In each legal run, at every time, the occupancy of each port and
 /// class of streams is at most its buffer, and so that of a row's port and class at most the number that is printed,
-/// where each node keeps its buckets at which a stream with that class there begins, and each bridge from which that
-/// stream goes on towards the port. Any other status and its text say what they say where `check` answers so.
+/// where each node keeps its buckets at which a stream with that class there begins, and each bridge that the port, or
+/// the port before it on that stream's routes, leaves. Any other status and its text say what they say where `check`
+/// answers so.
 pub fn what_buffers_answers()
     ensures { BuffersMean }
 {}
