@@ -57,3 +57,15 @@ filled-is rate burst full bits filled empty h e c =
     let n = nonnegative-is (holds_at empty bits) (full + PS_PER_SECOND * bits) (PS_PER_SECOND * burst)
     (omega (arith, ints)) in
     rw n (ceiling-only _ rate filled h c)
+
+-- where the bucket is full by the time at which a frame may go otherwise, that is the eligibility time
+pub soonest-is : (rate burst full group arrival bits : ℕ) (empty : ℤ)
+    → 1 ≤ rate → empty ≡ pos full -ℤ pos (PS_PER_SECOND * burst)
+    → full + PS_PER_SECOND * bits - PS_PER_SECOND * burst ≤ max arrival group * rate
+    → max arrival group ≡ eligibility_time rate empty group arrival bits
+soonest-is rate burst full group arrival bits empty h e by_then =
+    let z : ℤ = holds_at empty bits in
+    let n = nonnegative-is z (full + PS_PER_SECOND * bits) (PS_PER_SECOND * burst) (omega (arith, ints)) in
+    let q : ceiling (nonnegative z) rate ≤ max arrival group =
+    (ceiling-is (nonnegative z) rate h).least (max arrival group) (rw n by_then) in
+    omega arith

@@ -1,6 +1,6 @@
 //! The scheduler of one stream (IEEE Std 802.1Qcr, ATS scheduler state machines), in whole numbers.
 
-ghost use Rattle.std.specs.Prelude.{◌≡◌, ◌+◌, ◌-◌, ◌*◌, ◌≤◌, max, pos, ◌≤ℤ◌};
+ghost use Rattle.std.specs.Prelude.{◌≡◌, ◌+◌, ◌-◌, ◌*◌, ◌≤◌, nat_le, max, pos, ◌≤ℤ◌};
 ghost use Rattle.ats_num.specs.Division.{IsCeiling};
 ghost use Rattle.ats_num.specs.Rate.{IsRate};
 ghost use Rattle.ats_num.specs.declared.time.TheConstants.{PS_PER_SECOND, END};
@@ -65,8 +65,12 @@ impl Scheduler {
             ≡ eligibility_time self.now.rate self.now.empty group.0 arrival.0 bits }
         ensures bounded { result.0 ≤ END + PS_PER_SECOND * bits }
     {
+        let soonest = arrival.0.max(group.0);
+        if is_filled(self.full, self.burst_bits, bits, self.rate, soonest) {
+            return Ps(soonest);
+        }
         let filled = filled_at(self.full, self.burst_bits, bits, self.rate);
-        Ps(arrival.0.max(group.0).max(filled))
+        Ps(soonest.max(filled))
     }
 
     /// Takes the bits of a frame that became eligible at `eligible` out of the bucket.
@@ -95,6 +99,18 @@ fn scaled(bits: u64) -> u128
     ensures { result ≡ PS_PER_SECOND * bits }
 {
     u128::from(PS_PER_SECOND) * u128::from(bits)
+}
+
+/// Whether a bucket that is full at `full`, a time multiplied by the rate, holds so many bits at `at`; it is told
+/// without a division.
+fn is_filled(full: u128, burst_bits: u64, bits: u64, rate: Rate, at: u64) -> bool
+    requires committed { IsRate rate }
+    requires time { full ≤ END * rate + PS_PER_SECOND * burst_bits }
+    requires in_frame { bits ≤ MAX_WIRE_BITS }
+    ensures { result ≡ nat_le (full + PS_PER_SECOND * bits - PS_PER_SECOND * burst_bits) (at * rate) }
+{
+    let by_then = u128::from(at) * u128::from(rate.bps());
+    full + scaled(bits) <= by_then + scaled(burst_bits)
 }
 
 /// The first whole picosecond at which a bucket that is full at `full`, a time multiplied by the rate, holds so many
