@@ -1,5 +1,5 @@
 use Rattle.std.specs.Prelude.{ℕ, ◌+◌, ◌*◌, ◌/◌, ◌%◌, ◌<◌, ◌^◌, Bool, nat_lt, List, [], ◌∷◌, map, sum_by, All, unwrap_or}
-use Rattle.std.specs.Prelude.{◌≤◌, Option, Some, None}
+use Rattle.std.specs.Prelude.{◌≤◌, Option, Some, None, take}
 use Rattle.std.specs.List.{list_any}
 use Rattle.std.specs.Global.{Box}
 use Rattle.ats_num.specs.declared.time.TheConstants.{PS_PER_NS}
@@ -9,6 +9,7 @@ use Rattle.ats_streams.specs.Path.{IsPath}
 use Rattle.ats_streams.specs.Stream.{DeclaredStream}
 use Rattle.ats_streams.specs.declared.branch.Branch.{Branch}
 use Rattle.ats_network.specs.Network.{DeclaredNetwork}
+use Rattle.ats_admission_state.specs.declared.routes.Held.{Held}
 use Rattle.ats_admission_state.specs.declared.routes.Tree.{Tree}
 use Rattle.ats_streams.specs.declared.path.TheConstants.{MAX_PORTS}
 
@@ -28,6 +29,10 @@ abbrev pub route_state : List ℕ → Option (Box Tree) → ℕ → RouteState
 route_state path None deadline = record { places = path; branches = []; deadline = deadline }
 route_state path (Some tree) deadline =
     record { places = tree.value.places.items; branches = tree.value.branches.items; deadline = deadline }
+
+-- those of a stream, from what its route holds
+abbrev pub held_state : Held → RouteState
+held_state h = route_state (take h.count h.places) h.tree h.deadline.0
 
 -- for places past the last route
 abbrev pub no_route : RouteState

@@ -8,7 +8,7 @@ ghost use Rattle.ats_streams.specs.Path.{IsPath};
 ghost use Rattle.ats_streams.specs.declared.path.TheConstants.{MAX_PORTS};
 ghost use Rattle.ats_streams.specs.Stream.{IsClass, IsStream};
 ghost use Rattle.ats_admission_state.specs.Routes.{AreBounded, IsBounded, bound_of, is_late, places_along, route_of};
-ghost use Rattle.ats_admission_state.specs.Routes.{sum_along};
+ghost use Rattle.ats_admission_state.specs.Routes.{HasRoom, IsRoute, held_state, sum_along};
 
 use ats_class_table::PortClassTable;
 use ats_num::Ps;
@@ -19,10 +19,17 @@ use std::marker::Model;
 
 /// Where the bounds of a stream stand along the route to each of its listeners, and its deadline, so that their sums
 /// are found without the stream. Contracts see the place of each port, in the order of the stream's ports, the
-/// branches, by which these are routes, and the deadline. With one listener it takes no memory; with several it takes
-/// memory linear in the number of the stream's ports.
+/// branches, by which these are routes, and the deadline. With one listener it takes the same memory for each stream;
+/// with several it takes memory linear in the number of the stream's ports. A list of routes moves one of them at the
+/// cost of a pointer.
 #[derive(Drop)]
 pub struct Route {
+    held: Box<Held>,
+}
+
+// What a route holds.
+#[derive(Drop)]
+struct Held {
     deadline: Ps,
     places: [u16; MAX_PORTS], // of a stream with one listener
     count: u8,
@@ -37,65 +44,75 @@ struct Tree {
 }
 
 impl Model for Route {
-    ghost use Rattle.std.specs.Prelude.{take};
-    ghost use Rattle.ats_admission_state.specs.Routes.{HasRoom, IsRoute, RouteState, route_state};
+    ghost use Rattle.ats_admission_state.specs.Routes.{HasRoom, IsRoute, RouteState, held_state};
 
     ghost Value = { RouteState };
 
-    ghost view = { λ r. route_state (take r.count r.places) r.tree r.deadline.0 };
+    ghost view = { λ r. held_state r.held.value };
 
-    ghost invariant = { λ r. HasRoom r.count × IsRoute (route_state (take r.count r.places) r.tree r.deadline.0) };
+    ghost invariant = { λ r. HasRoom r.held.value.count × IsRoute (held_state r.held.value) };
 }
 
 impl Route {
-    /// The routes of a stream, whose ports are below 4096. `AllocError` where memory runs out, which it does not take
-    /// for a stream with one listener.
+    /// The routes of a stream, whose ports are below 4096. `AllocError` where memory runs out.
     pub(crate) fn of(alloc: Global, stream: &Stream) -> Result<Self, AllocError>
         requires { All (λ p. p < 4096) stream.now.ports }
         ensures { IfOk result (λ route. route ≡ route_of stream.now) }
     {
         if stream.legs() > 1 {
             let tree = Box::new(alloc, tree_of(alloc, stream)?)?;
-            return Ok(Self::with_tree(stream, tree));
+            return Self::with_tree(alloc, stream, tree);
         }
-        Ok(Self::alone(stream))
+        Self::alone(alloc, stream)
     }
 
-    // The route of a stream with one listener.
-    fn alone(stream: &Stream) -> Self
+    // The route of a stream with one listener. `AllocError` where memory runs out.
+    fn alone(alloc: Global, stream: &Stream) -> Result<Self, AllocError>
         requires one_listener { stream.now.branches ≡ [] }
         requires ports { All (λ p. p < 4096) stream.now.ports }
-        ensures { result ≡ route_of stream.now }
+        ensures { IfOk result (λ route. route ≡ route_of stream.now) }
     {
         let path = path_of(stream);
-        Route {
+        let held = Held {
             deadline: stream.deadline(),
             places: places_along(path, stream.classes()),
             count: path.len() as u8,
             tree: None,
-        }
+        };
+        Self::holding(alloc, held)
     }
 
-    // The routes of a stream with several listeners, from its places and branches.
-    fn with_tree(stream: &Stream, tree: Box<Tree>) -> Self
+    // The routes of a stream with several listeners, from its places and branches. `AllocError` where memory runs out.
+    fn with_tree(alloc: Global, stream: &Stream, tree: Box<Tree>) -> Result<Self, AllocError>
         requires rules { IsStream stream.now }
         requires places { tree.value.places.items ≡ places_along stream.now.ports stream.now.classes }
         requires branches { tree.value.branches.items ≡ stream.now.branches }
-        ensures { result ≡ route_of stream.now }
+        ensures { IfOk result (λ route. route ≡ route_of stream.now) }
     {
-        Route {
+        let held = Held {
             deadline: stream.deadline(),
             places: [0; MAX_PORTS],
             count: 0,
             tree: Some(tree),
-        }
+        };
+        Self::holding(alloc, held)
+    }
+
+    // The routes that hold this. `AllocError` where memory runs out.
+    fn holding(alloc: Global, held: Held) -> Result<Self, AllocError>
+        requires room { HasRoom held.count }
+        requires routes { IsRoute (held_state held) }
+        ensures { IfOk result (λ route. route ≡ held_state held) }
+    {
+        let held = Box::new(alloc, held)?;
+        Ok(Route { held })
     }
 
     // The number of legs, and of listeners.
     fn legs(&self) -> u32
         ensures { result ≡ 1 + length self.now.branches }
     {
-        match &self.tree {
+        match &self.held.tree {
             None => 1,
             Some(tree) => tree.branches.len() as u32 + 1,
         }
@@ -105,8 +122,8 @@ impl Route {
     fn places(&self) -> &[u16]
         ensures { result.now ≡ self.now.places }
     {
-        match &self.tree {
-            None => &self.places[..self.count as usize],
+        match &self.held.tree {
+            None => &self.held.places[..self.held.count as usize],
             Some(tree) => tree.places.as_slice(),
         }
     }
@@ -117,8 +134,8 @@ impl Route {
         requires bounded { AreBounded bounds.now self.now }
         ensures { result ≡ sum_along bounds.now self.now leg }
     {
-        match &self.tree {
-            None => sum_at(bounds, &self.places[..self.count as usize]),
+        match &self.held.tree {
+            None => sum_at(bounds, &self.held.places[..self.held.count as usize]),
             Some(tree) => sum_to(bounds, &tree.places, &tree.branches, leg as usize),
         }
     }
@@ -129,7 +146,7 @@ impl Route {
         ensures { result ≡ is_late bounds.now self.now }
     {
         for leg in 0..self.legs() {
-            if u128::from(self.deadline.0) < self.sum(bounds, leg) {
+            if u128::from(self.held.deadline.0) < self.sum(bounds, leg) {
                 return true;
             }
         }

@@ -42,9 +42,16 @@ pub fn is_identity(address: u64, vlan: u16) -> bool
 }
 
 /// A declared stream. It keeps the rules that `Stream::new` tests, and contracts see it as the
-/// record of what it declares.
+/// record of what it declares. What it holds stands in one place of its own, so that a list of streams moves one of
+/// them at the cost of a pointer.
 #[derive(Debug, Drop)]
 pub struct Stream {
+    held: Box<Held>,
+}
+
+// What a stream holds.
+#[derive(Debug, Drop)]
+struct Held {
     name: Name,
     ports: Vec<u32>,
     branches: Vec<Branch>,
@@ -55,15 +62,14 @@ pub struct Stream {
 }
 
 impl Model for Stream {
-    ghost use Rattle.ats_streams.specs.Stream.{DeclaredStream, IsStream, branching_stream};
+    ghost use Rattle.ats_streams.specs.Stream.{DeclaredStream, IsStream};
+    ghost use Rattle.ats_streams.specs.StreamInside.{declared_in};
 
     ghost Value = { DeclaredStream };
 
-    ghost view = { λ s. branching_stream s.name s.ports.items s.branches.items s.classes.items s.declared.rate
-        s.declared.burst_bits s.declared.min_octets s.declared.max_octets s.deadline_ns s.identity };
+    ghost view = { λ s. declared_in s.held.value };
 
-    ghost invariant = { λ s. IsStream (branching_stream s.name s.ports.items s.branches.items s.classes.items
-        s.declared.rate s.declared.burst_bits s.declared.min_octets s.declared.max_octets s.deadline_ns s.identity) };
+    ghost invariant = { λ s. IsStream (declared_in s.held.value) };
 }
 
 impl Stream {
@@ -119,22 +125,26 @@ impl Stream {
             return Err(Failure::Fault(fault));
         }
         let classes = classes_for(alloc, ports.len(), classes)?;
-        Ok(Stream {
-            name,
-            ports,
-            branches,
-            classes,
-            declared,
-            deadline_ns,
-            identity,
-        })
+        let held = Box::new(
+            alloc,
+            Held {
+                name,
+                ports,
+                branches,
+                classes,
+                declared,
+                deadline_ns,
+                identity,
+            },
+        )?;
+        Ok(Stream { held })
     }
 
     /// The stream's name.
     pub fn name(&self) -> Name
         ensures { result ≡ self.now.name }
     {
-        self.name
+        self.held.name
     }
 
     /// The numbers of its ports: those of the trunk, and then those of each branch. The clause `rules` tells all that a
@@ -143,7 +153,7 @@ impl Stream {
         ensures value { result.now ≡ self.now.ports }
         ensures rules { IsStream self.now }
     {
-        self.ports.as_slice()
+        self.held.ports.as_slice()
     }
 
     /// The number of its legs, and of its listeners: of the trunk and the branches.
@@ -152,7 +162,7 @@ impl Stream {
         ensures listeners { result ≡ length (legs_of self.now.ports self.now.branches) }
         ensures rules { IsStream self.now }
     {
-        self.branches.len() as u32 + 1
+        self.held.branches.len() as u32 + 1
     }
 
     /// The numbers of the ports of one leg, counted from 0: of the trunk, and then of each branch.
@@ -161,7 +171,7 @@ impl Stream {
         ensures value { result.now ≡ leg_at (legs_of self.now.ports self.now.branches) leg }
         ensures rules { IsStream self.now }
     {
-        leg_of(&self.ports, &self.branches, leg as usize)
+        leg_of(&self.held.ports, &self.held.branches, leg as usize)
     }
 
     /// The numbers of the ports from the talker to the listener of one leg, counted from 0: those in front of the leg,
@@ -172,7 +182,7 @@ impl Stream {
         ensures path { IsPath result }
         ensures rules { IsStream self.now }
     {
-        route_of(&self.ports, &self.branches, leg as usize)
+        route_of(&self.held.ports, &self.held.branches, leg as usize)
     }
 
     /// Whether the route to each listener has at most so many ports, of which there are at most 64.
@@ -182,7 +192,7 @@ impl Stream {
         ensures short { IsTrue result → AreShort most (routes_of self.now.ports self.now.branches) }
         ensures rules { IsStream self.now }
     {
-        !has_bad_route(&self.ports, &self.branches, most as usize)
+        !has_bad_route(&self.held.ports, &self.held.branches, most as usize)
     }
 
     /// The branch that is a leg, 1 or more.
@@ -191,7 +201,7 @@ impl Stream {
         ensures value { result ≡ slice_index_or self.now.branches (leg - 1) no_branch }
         ensures rules { IsStream self.now }
     {
-        self.branches[leg as usize - 1]
+        self.held.branches[leg as usize - 1]
     }
 
     /// Its class at each of its ports, from 1 to 7, in the order of the ports.
@@ -199,7 +209,7 @@ impl Stream {
         ensures value { result.now ≡ self.now.classes }
         ensures rules { IsStream self.now }
     {
-        self.classes.as_slice()
+        self.held.classes.as_slice()
     }
 
     /// Its committed rate and burst, and the least and greatest octets of its frames.
@@ -207,7 +217,7 @@ impl Stream {
         ensures value { result ≡ traffic_of self.now }
         ensures rules { IsRuled result }
     {
-        self.declared
+        self.held.declared
     }
 
     /// Its committed rate.
@@ -215,7 +225,7 @@ impl Stream {
         ensures value { result ≡ self.now.rate }
         ensures rules { KeepsRules self.now.rate self.now.burst_bits self.now.min_octets self.now.max_octets }
     {
-        self.declared.rate
+        self.held.declared.rate
     }
 
     /// Its committed burst, in bits.
@@ -223,7 +233,7 @@ impl Stream {
         ensures value { result ≡ self.now.burst_bits }
         ensures rules { KeepsRules self.now.rate self.now.burst_bits self.now.min_octets self.now.max_octets }
     {
-        self.declared.burst_bits
+        self.held.declared.burst_bits
     }
 
     /// The fewest octets of its frames, counted with the frame check sequence.
@@ -231,7 +241,7 @@ impl Stream {
         ensures value { result ≡ self.now.min_octets }
         ensures rules { KeepsRules self.now.rate self.now.burst_bits self.now.min_octets self.now.max_octets }
     {
-        self.declared.min_octets
+        self.held.declared.min_octets
     }
 
     /// The most octets of its frames, counted with the frame check sequence.
@@ -239,7 +249,7 @@ impl Stream {
         ensures value { result ≡ self.now.max_octets }
         ensures rules { KeepsRules self.now.rate self.now.burst_bits self.now.min_octets self.now.max_octets }
     {
-        self.declared.max_octets
+        self.held.declared.max_octets
     }
 
     /// Its deadline from release to its listener, in nanoseconds: 1 to 1,000,000,000.
@@ -247,7 +257,7 @@ impl Stream {
         ensures value { result ≡ self.now.deadline_ns }
         ensures valid { IsDeadline self.now.deadline_ns }
     {
-        self.deadline_ns
+        self.held.deadline_ns
     }
 
     /// The same as a time, in picoseconds.
@@ -255,7 +265,7 @@ impl Stream {
         ensures value { result.0 ≡ PS_PER_NS * self.now.deadline_ns }
         ensures valid { IsDeadline self.now.deadline_ns }
     {
-        Ps(PS_PER_NS * self.deadline_ns)
+        Ps(PS_PER_NS * self.held.deadline_ns)
     }
 
     /// The destination address, below `2^48`, and the VLAN identifier, 1 to 4094, of its frames,
@@ -264,7 +274,7 @@ impl Stream {
         ensures value { result ≡ self.now.identity }
         ensures valid { MayIdentify self.now.identity }
     {
-        self.identity
+        self.held.identity
     }
 
     /// Sets the class at each of its ports, from 1 to 7. All else stays, and it takes no memory.
@@ -272,7 +282,7 @@ impl Stream {
         requires { IsClass class }
         ensures { self.new ≡ with_class self.old class }
     {
-        self.classes.fill(class);
+        self.held.classes.fill(class);
     }
 
     /// Sets the committed burst, in bits: at least the wire bits of the longest frame, and at most 1,000,000,000 (IEEE
@@ -282,7 +292,7 @@ impl Stream {
         requires most { IsBurst burst_bits }
         ensures { self.new ≡ with_burst self.old burst_bits }
     {
-        self.declared.burst_bits = burst_bits;
+        self.held.declared.burst_bits = burst_bits;
     }
 }
 
