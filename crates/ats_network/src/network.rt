@@ -363,8 +363,9 @@ impl Network {
     fn is_full(&self, ports: &[u32]) -> bool
         ensures { result ≡ is_full self.now.streams ports.now }
     {
-        let streams = self.streams();
-        streams.len() >= MAX_STREAMS || ports.len() > MAX_PORTS_TOGETHER - ports_of(streams)
+        let _rules = self.streams(); // for what a network keeps
+        let streams = self.stream_table.as_slice();
+        streams.len() >= MAX_STREAMS || ports.len() > MAX_PORTS_TOGETHER - self.stream_table.ports()
     }
 
     // Whether an identity is given, and one of the streams has it.
@@ -376,18 +377,6 @@ impl Network {
             None => false,
         }
     }
-}
-
-// The ports of streams, counted together.
-fn ports_of(streams: &[Stream]) -> usize
-    requires { ports_together streams.now ≤ MAX_PORTS_TOGETHER }
-    ensures { result ≡ ports_together streams.now }
-{
-    let mut ports = 0;
-    for stream in streams {
-        ports += stream.ports().len();
-    }
-    ports
 }
 
 // Whether no stream has a branch.

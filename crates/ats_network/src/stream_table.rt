@@ -1,18 +1,18 @@
 //! Streams, found by their names and by the addresses of their frames.
 
-ghost use Rattle.std.specs.Prelude.{◌≡◌, ◌<◌, [], ◌∷◌, ◌++◌, length, Some, None, false};
+ghost use Rattle.std.specs.Prelude.{◌≡◌, ◌+◌, ◌<◌, ◌≤◌, [], ◌∷◌, ◌++◌, length, Some, None, false};
 ghost use Rattle.std.specs.Prelude.{IfSome, OnOk, OnErr, slice_index_or};
 ghost use Rattle.ats_num.specs.Places.{place_of};
 ghost use Rattle.ats_streams.specs.Rules.{CoversLongest, IsBurst};
 ghost use Rattle.ats_streams.specs.Stream.{IsClass};
 ghost use Rattle.ats_topology.specs.Node.{AreApart};
 ghost use Rattle.ats_network.specs.Edits.{IsLess, classed, no_stream, burst_changed, stream_named, less_named};
-ghost use Rattle.ats_network.specs.Network.{AreIdentified};
+ghost use Rattle.ats_network.specs.Network.{AreIdentified, ports_together};
 ghost use Rattle.ats_network.specs.Pushes.{place_identified, is_identity_taken};
 ghost use Rattle.ats_network.specs.Tables.{stream_names, serial_at, IsUnidentified, Identifies, FindsSame};
 ghost use Rattle.ats_network.specs.Tables.{Names, NamesSame};
 
-use crate::network::MAX_STREAMS;
+use crate::network::{MAX_PORTS_TOGETHER, MAX_STREAMS};
 use ats_num::Name;
 use ats_serials::{place_in, serial_after};
 use ats_streams::Stream;
@@ -23,25 +23,28 @@ use std::marker::Model;
 /// Streams of different names and different identities, numbered from 0 in the order in which they
 /// came. Contracts see the list of them. Beside it each stream has a serial number, and these rise
 /// along the list. The maps tell serial numbers, so that when a stream is taken out no other entry
-/// changes.
+/// changes. The number of all ports is kept too, so that no stream is asked for its own when one more comes.
 #[derive(Drop)]
 pub(crate) struct StreamTable {
     streams: Vec<Stream>,
     serials: Vec<u64>,
     names: BTreeMap<Name, u64>,
     identities: BTreeMap<(u64, u16), u64>,
+    ports: usize,
 }
 
 impl Model for StreamTable {
-    ghost use Rattle.std.specs.Prelude.{List};
+    ghost use Rattle.std.specs.Prelude.{◌≡◌, List};
     ghost use Rattle.ats_streams.specs.Stream.{DeclaredStream};
+    ghost use Rattle.ats_network.specs.Network.{ports_together};
     ghost use Rattle.ats_network.specs.Tables.{AreStreams};
 
     ghost Value = { List DeclaredStream };
 
     ghost view = { λ t. t.streams.items };
 
-    ghost invariant = { λ t. AreStreams t.streams.items t.serials.items t.names t.identities };
+    ghost invariant = { λ t. AreStreams t.streams.items t.serials.items t.names t.identities
+        × (t.ports ≡ ports_together t.streams.items) };
 }
 
 impl StreamTable {
@@ -54,6 +57,7 @@ impl StreamTable {
             serials: Vec::new(alloc),
             names: BTreeMap::new(alloc),
             identities: BTreeMap::new(alloc),
+            ports: 0,
         }
     }
 
@@ -62,6 +66,13 @@ impl StreamTable {
         ensures { result.now ≡ self.now }
     {
         self.streams.as_slice()
+    }
+
+    /// The ports of the streams, counted together.
+    pub(crate) fn ports(&self) -> usize
+        ensures { result ≡ ports_together self.now }
+    {
+        self.ports
     }
 
     /// The number of the stream with this name; `None` exactly where none has it.
@@ -86,6 +97,7 @@ impl StreamTable {
         requires absent { place_of stream.name (stream_names self.old) ≡ None }
         requires other { is_identity_taken self.old stream.identity ≡ false }
         requires room { length self.old < MAX_STREAMS }
+        requires ports { ports_together self.old + length stream.ports ≤ MAX_PORTS_TOGETHER }
         ensures ok { OnOk result (self.new ≡ self.old ++ stream ∷ []) }
         ensures err { OnErr result (self.new ≡ self.old) }
     {
@@ -93,6 +105,7 @@ impl StreamTable {
         self.streams.reserve(1)?;
         self.serials.reserve(1)?;
         number(&mut self.names, &mut self.identities, &stream, serial)?;
+        self.ports += stream.ports().len();
         self.serials.push_reserved(serial);
         self.streams.push_reserved(stream);
         Ok(())
@@ -128,6 +141,7 @@ impl StreamTable {
         let place = self.place(name)? as usize;
         let stream = self.streams.remove(place);
         self.serials.remove(place);
+        self.ports -= stream.ports().len();
         forget(&mut self.names, &mut self.identities, &stream);
         Some(stream)
     }

@@ -24,6 +24,15 @@ push-requires-clause-room c =
     ∙ sym (c.is_full.ensures ∙ ap (is_full c.args.self.now.streams) c.ports.ensures.value) ∙ c.if-is_full.false in
     (not_full inside.streams c.args.stream.ports room).few_streams
 
+pub push-requires-clause-ports : goal.push-requires-clause-ports
+push-requires-clause-ports c =
+    let inside : DeclaredNetwork =
+    network_within c.self.inside.shape c.self.inside.most_ports c.self.inside.stream_table c.self.inside.flow_table in
+    let room : is_full inside.streams c.args.stream.ports ≡ false =
+    ap (λ (n : DeclaredNetwork). is_full n.streams c.args.stream.ports) c.self.view_is
+    ∙ sym (c.is_full.ensures ∙ ap (is_full c.args.self.now.streams) c.ports.ensures.value) ∙ c.if-is_full.false in
+    (not_full inside.streams c.args.stream.ports room).few_ports
+
 pub invariant_of-self-2 : goal.invariant_of-self-2
 invariant_of-self-2 c =
     let inside : DeclaredNetwork =
