@@ -5,3 +5,4 @@ mod Held
 mod Lines
 mod Pairs
 mod Walks
+mod Feeds

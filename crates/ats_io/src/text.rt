@@ -4,6 +4,8 @@ ghost use Rattle.std.specs.Prelude.{◌≡◌, ◌==◌, ◌<◌, ◌≤◌, ◌
 ghost use Rattle.std.specs.Prelude.{slice_range, slice_index, ◌-◌};
 ghost use Rattle.ats_io.specs.Text.{lines_of};
 
+use memchr::memchr;
+
 /// The line that begins at place `at` of the text: the place where it ends, and the place where the next line begins. A
 /// line ends before its LF, and before a CR directly before that LF; the last line may have no LF, and keeps its CR.
 pub fn line_at(text: &[u8], at: usize) -> (usize, usize)
@@ -30,10 +32,11 @@ pub fn line_at(text: &[u8], at: usize) -> (usize, usize)
 }
 
 // The place of the first LF of a text.
+#[tactic(auto, using(crate::proofs::Feeds::first_feed, crate::proofs::Feeds::feed_is_within))]
 fn feed_at(text: &[u8]) -> Option<usize>
     ensures place { result ≡ position (λ b. b == 10) text.now }
     ensures within { IfSome result (λ place. place < length text.now) }
     ensures feed { IfSome result (λ place. slice_index text.now place ≡ 10) }
 {
-    text.iter().position(|b| *b == b'\n')
+    memchr(b'\n', text)
 }
