@@ -25,7 +25,7 @@ moved {X} xs h c x v hh hc apart at =
 module _ {X : Type 0} (leads : X → X → Type 0) where
   -- the first of the items below the hole moves up to it
   pub sinks : (xs : List X) (h c : ℕ) (v : X) → c < length xs → IsBelow h c → ((d : X) → get_or xs c d ≡ v)
-      → ((k : ℕ) (d : X) → IsBelow h k → k < length xs → k ≢ c → leads v (get_or xs k d))
+      → ((k : ℕ) (d : X) → IsBelow h k → k < length xs → leads v (get_or xs k d))
       → IsHeapAround leads xs h → IsHeapAround leads (set xs h v) c
   sinks xs h c v hc below at first around =
       let hh : h < length xs = omega arith in
@@ -39,7 +39,7 @@ module _ {X : Type 0} (leads : X → X → Type 0) where
             let within : k < length xs = omega arith in
             elim (cases_eq j h) as (λ _. At j k d) [
               | inl jh ↦ (let n : k ≢ h = λ e. omega arith in
-                  rw (new j d jh, old k d n) (first k d (record { least = omega arith; most = omega arith }) within kn))
+                  rw (new j d jh, old k d n) (first k d (record { least = omega arith; most = omega arith }) within))
               | inr other ↦ elim (cases_eq k h) as (λ _. At j k d) [
                 | inl kh ↦ rw (old j d other, new k d kh, ← at d)
                     (around.across j c d (record { least = omega arith; most = omega arith }) below hc)

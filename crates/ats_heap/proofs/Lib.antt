@@ -1,3 +1,4 @@
+pub mod Fours
 pub mod Holes
 pub mod Lines
 pub mod Tops

@@ -40,7 +40,7 @@ top_by {X} leads joins xs self heap zero k d kn l =
 top_by {X} leads joins xs self heap (suc n) k d kn l =
     elim (cases_eq 0 k) as (λ _. leads (get_or xs 0 d) (get_or xs k d)) [
       | inl e ↦ subst (λ (m : ℕ). leads (get_or xs 0 d) (get_or xs m d)) e (self d)
-      | inr some ↦ (let j : ℕ = (k - 1) / 2 in
+      | inr some ↦ (let j : ℕ = (k - 1) / 4 in
           let low : j ≤ n = omega arith in
           let within : j < length xs = omega arith in
           joins _ _ _ (top_by leads joins xs self heap n j d low within)

@@ -7,10 +7,10 @@ pub record Leads {T : Type 0} (covers : T → Type 0) (before : T → T → Type
   pub second : covers y
   pub after : ¬ before y x
 
--- k is one of the two places below j
+-- k is one of the four places below j
 pub record IsBelow (j k : ℕ) : Type 0 where
-  pub least : 2 * j + 1 ≤ k
-  pub most : k ≤ 2 * j + 2
+  pub least : 4 * j + 1 ≤ k
+  pub most : k ≤ 4 * j + 4
 
 -- each item leads those below it
 abbrev pub IsHeap : {T : Type 0} → (T → T → Type 0) → List T → Type 0
@@ -35,12 +35,27 @@ pub record IsLaterAbove {T : Type 0} (leads : T → T → Type 0) (xs : List T) 
     pub below : IsBelow place hole
     pub later : (d : T) → leads item (slice_index_or xs place d)
 
--- of the items below a place, the one that stands here leads the other
+-- of the items below a place, the one that stands here leads each
 pub record IsFirstBelow {T : Type 0} (leads : T → T → Type 0) (xs : List T) (above place : ℕ) : Type 0 where
   pub below : IsBelow above place
   pub within : place < length xs
-  pub first : (k : ℕ) (d : T) → IsBelow above k → k < length xs → k ≢ place
-      → leads (slice_index_or xs place d) (slice_index_or xs k d)
+  pub first : (k : ℕ) (d : T) → IsBelow above k → k < length xs → leads (slice_index_or xs place d)
+      (slice_index_or xs k d)
+
+-- each of four places is the one before or follows it
+pub record AreFour (a b c d : ℕ) : Type 0 where
+  pub second : a ≤ b
+  pub after_first : b ≤ a + 1
+  pub third : b ≤ c
+  pub after_second : c ≤ b + 1
+  pub last : c ≤ d
+  pub after_third : d ≤ c + 1
+
+-- of the items from one place to another, the one that stands here leads each
+pub record IsFirstOf {T : Type 0} (leads : T → T → Type 0) (xs : List T) (from to place : ℕ) : Type 0 where
+  pub least : from ≤ place
+  pub most : place ≤ to
+  pub first : (k : ℕ) (d : T) → from ≤ k → k ≤ to → leads (slice_index_or xs place d) (slice_index_or xs k d)
 
 -- there is room for all that may come, the order covers each item, and the items form a heap
 pub record IsKept {T : Type 0} (covers : T → Type 0) (before : T → T → Type 0) (items : List T) (capacity room : ℕ)

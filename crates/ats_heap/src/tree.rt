@@ -13,8 +13,8 @@ use std::marker::Model;
 /// when they are freed, and what lies below them stays with the program; 44 entries of a queue take 1,056.
 const LEAST: u32 = 44;
 
-/// Items in an order, each of which stands above two others. Contracts see them as a heap: a list, whose order means
-/// nothing, and the capacity and the order that the tree was opened with.
+/// Items in an order, each of which stands above up to four others. Contracts see them as a heap: a list, whose order
+/// means nothing, and the capacity and the order that the tree was opened with.
 #[derive(Drop)]
 pub(crate) struct Tree<T: Copy, O: Precedence<T>> {
     items: Vec<T>,

@@ -23,7 +23,7 @@ loop-below-preserved g c =
       within = omega (arith, found.within, length-set xs h v);
       covered = All-set covers xs h v covered kept.covered;
       around = sinks (Leads covers before) xs h k v found.within found.below at
-          (λ j d b l n. rw (at d) at (found.first j d b l n)) kept.around;
+          (λ j d b l. rw (at d) at (found.first j d b l)) kept.around;
       items = λ item. IsPermutation-trans _ _ _ (kept.items item)
           (moved xs h k item v kept.within found.within apart at);
     }
