@@ -15,7 +15,7 @@ use Rattle.ats_engine_steps.specs.Course.{Course}
 use Rattle.ats_engine_steps.specs.Entries.{event_of}
 use Rattle.ats_engine_steps.specs.Invariant.{Holds}
 use Rattle.ats_engine_steps.specs.declared.event.Event.{Event}
-use Rattle.ats_engine_steps.specs.declared.event.Event.TheVariants.{End, Arrival, Eligibility, Selection}
+use Rattle.ats_engine_steps.specs.declared.event.Event.TheVariants.{Arrival, Eligibility, Selection}
 use Rattle.ats_engine_proofs.proofs.Events.{IsOf, is-of}
 use Rattle.ats_engine.specs.Entering.{MayEnter, Enters}
 use Rattle.ats_engine.proofs.Joining.{may-enter-some}
@@ -25,7 +25,6 @@ use Rattle.ats_engine.specs.declared.runner.Runner.{Runner}
 
 -- the moment of an event tells it
 event-told : (event : Event) (moment : Moment) → IsOf event moment → event_of moment ≡ event
-event-told (End frame) moment own = rw own.phase (ap End own.number)
 event-told (Arrival frame) moment own = rw own.phase (ap Arrival own.number)
 event-told (Eligibility frame) moment own = rw own.phase (ap Eligibility own.number)
 event-told (Selection port) moment own = rw own.phase (ap Selection own.number)

@@ -4,13 +4,13 @@ ghost use Rattle.std.specs.Prelude.{◌≡◌, ◌<◌, ◌∷◌, Some, All};
 ghost use Rattle.ats_events.specs.declared.moment.Moment.{Moment};
 ghost use Rattle.ats_engine_steps.specs.Bounds.{steps_left};
 ghost use Rattle.ats_engine_steps.specs.Seen.{course_of};
-ghost use Rattle.ats_engine_steps.specs.declared.event.Event.TheVariants.{Arrival, Eligibility, Selection, End};
+ghost use Rattle.ats_engine_steps.specs.declared.event.Event.TheVariants.{Arrival, Eligibility, Selection};
 ghost use Rattle.ats_engine.specs.Ready.{IsReady, IsAtEvent, Goes, Follows};
 ghost use Rattle.ats_engine.specs.Told.{told, agenda_told};
 ghost use Rattle.ats_engine.specs.Following.{follows-itself, follows-both, ready-permuted};
 
 use crate::entering::{enter, enter_both, enter_due};
-use ats_engine_steps::{Event, State, become_eligible, come, end, select};
+use ats_engine_steps::{Event, State, become_eligible, come, select};
 use ats_events::{Actor, Agenda, Moment, TimeOrder};
 use ats_network::Network;
 use ats_num::{Pace, Tie};
@@ -52,16 +52,7 @@ impl<'a, T: Tie, P: Pace> Runner<'a, T, P> {
         requires { IsAtEvent T.key P.wait O.before self.old (agenda_told agenda.old) now (Selection port) }
         ensures { Goes T.key P.wait self.old self.new (agenda_told agenda.old) (agenda_told agenda.new) }
     {
-        let entry = select(self.network, &mut self.state, now, port);
-        enter(agenda, Some(entry));
-    }
-
-    /// A transmission ends.
-    fn end<O: TimeOrder>(&mut self, now: Moment, row: u32, agenda: &mut Agenda<O, ()>)
-        requires { IsAtEvent T.key P.wait O.before self.old (agenda_told agenda.old) now (End row) }
-        ensures { Goes T.key P.wait self.old self.new (agenda_told agenda.old) (agenda_told agenda.new) }
-    {
-        let (arrival, selection) = end(self.network, &mut self.state, &self.pace, now, row);
+        let (arrival, selection) = select(self.network, &mut self.state, &self.pace, now, port);
         enter_both(agenda, arrival, selection);
     }
 }
@@ -78,7 +69,6 @@ impl<'a, T: Tie, O: TimeOrder, P: Pace> Actor<O> for Runner<'a, T, P> {
 
     fn handle(&mut self, moment: Moment, _event: (), agenda: &mut Agenda<O, ()>) {
         match Event::of(moment) {
-            Event::End(row) => self.end(moment, row, agenda),
             Event::Arrival(row) => self.come(moment, row, agenda),
             Event::Eligibility(row) => self.become_eligible(moment, row, agenda),
             Event::Selection(port) => self.select(moment, port, agenda),

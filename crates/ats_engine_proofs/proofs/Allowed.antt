@@ -1,6 +1,6 @@
-use Rattle.std.proofs.Common.{◌≡◌, ℕ, ◌+◌, ◌<◌, ◌≤◌, List, length, get_or, refl, sym, ap, ◌∙◌, subst, inl, inr, arith}
-use Rattle.std.proofs.Common.{All}
-use Rattle.std.specs.Prelude.{◌≢◌, Contains, false}
+use Rattle.std.proofs.Common.{◌≡◌, ℕ, ◌+◌, ◌*◌, ◌<◌, ◌≤◌, List, [], length, get_or, refl, sym, ap, ◌∙◌, subst}
+use Rattle.std.proofs.Common.{All, inl, inr, arith}
+use Rattle.std.specs.Prelude.{◌≢◌, Contains}
 use Rattle.std.proofs.lemmas.Bool.{cases_lt}
 use Rattle.std.proofs.lemmas.List.Elements.{All-head}
 use Rattle.std.proofs.lemmas.Option.{same_Some}
@@ -16,8 +16,8 @@ use Rattle.ats_network.proofs.ClassLemmas.{class_at-le}
 use Rattle.ats_network.proofs.SenderLemmas.{sender_keeps, flow_class}
 use Rattle.ats_group.specs.declared.verdict.Verdict.{Verdict}
 use Rattle.ats_transmit.specs.Picks.{IsFirstStart}
-use Rattle.ats_transmit.specs.Sending.{last_start}
-use Rattle.ats_transmit.specs.State.{PortState}
+use Rattle.ats_transmit.specs.Sending.{last_end, last_start}
+use Rattle.ats_transmit.specs.State.{PortState, opened}
 use Rattle.ats_transmit.specs.declared.offer.Offer.{Offer}
 use Rattle.ats_transmit.specs.declared.sent.Sent.{Sent}
 use Rattle.ats_events.specs.declared.moment.Moment.{Moment}
@@ -26,31 +26,35 @@ use Rattle.ats_trace.specs.Projections.{Crossing}
 use Rattle.ats_trace.specs.HopRecord.{HopRecord, IsEligible}
 use Rattle.ats_trace.specs.declared.journey.Release.{Release}
 use Rattle.ats_run_records.specs.Progress.{Progress, last_hop, progress_at}
+use Rattle.ats_num.specs.Wire.{bits_of}
 use Rattle.ats_engine_steps.specs.Bounds.{horizon, all_left}
-use Rattle.ats_engine_steps.specs.Conditions.{HasRoom, IsThere, MayComeNow, MayBeOffered, MaySelect, MayEnd}
+use Rattle.ats_engine_steps.specs.Conditions.{HasRoom, IsPlaced, IsThere, MayComeNow, MayBeOffered, MaySelect}
 use Rattle.ats_engine_steps.specs.Course.{Course, arrives_from_at, crossings_so_far, eligibility_of, offer_at, path_of}
 use Rattle.ats_engine_steps.specs.Course.{place_at, sender_of, stage_at}
 use Rattle.ats_engine_steps.specs.Entries.{IsReached, eligible_moment, eligibility_by}
-use Rattle.ats_engine_steps.specs.Frames.{IsFrame, IsDueAt, IsUnsent, IsSentUntil, Stands, Goes}
+use Rattle.ats_engine_steps.specs.Frames.{IsFrame, IsDueAt, IsUnsent, Goes}
 use Rattle.ats_engine_steps.specs.Invariant.{Holds}
 use Rattle.ats_engine_steps.specs.Paces.{IsPaced}
-use Rattle.ats_engine_steps.specs.Ports.{IsHeld, IsPortOf, IsTurn, Sends, port_state_at}
+use Rattle.ats_engine_steps.specs.Ports.{IsHeld, IsPortOf, IsTurn, port_state_at}
 use Rattle.ats_engine_steps.specs.Steps.{IsLegAt, class_behind, rows_next}
 use Rattle.ats_engine_steps.specs.declared.event.Event.{Event}
-use Rattle.ats_engine_steps.specs.declared.event.Event.TheVariants.{End, Arrival, Eligibility, Selection}
+use Rattle.ats_engine_steps.specs.declared.event.Event.TheVariants.{Arrival, Eligibility, Selection}
 use Rattle.ats_engine_steps.specs.declared.stage.Stage.{Stage}
-use Rattle.ats_engine_steps.specs.declared.stage.Stage.TheVariants.{Coming, Due, Waiting, Sending, Over}
+use Rattle.ats_engine_steps.specs.declared.stage.Stage.TheVariants.{Coming, Due, Waiting, Over}
 use Rattle.ats_engine_steps.specs.declared.turn.Turn.TheVariants.{Resting, Selecting}
 use Rattle.ats_engine_proofs.specs.Next.{IsNext}
 use Rattle.ats_engine_proofs.proofs.Begun.{IsApart, next-or-apart}
+use Rattle.ats_engine_proofs.proofs.Crossed.{crossed-ended}
+use Rattle.ats_engine_proofs.proofs.Lasting.{held-most}
 use Rattle.ats_engine_proofs.proofs.LegPorts.{leg-few, leg-some}
+use Rattle.ats_engine_proofs.proofs.Now.{next-in_time}
 use Rattle.ats_engine_proofs.proofs.Offering.{contains-leg, not-sent-here, room-here}
 use Rattle.ats_engine_proofs.proofs.OnePlace.{standing-has}
 use Rattle.ats_engine_proofs.proofs.Placed.{IsStanding, standing-place, standing-placed, standing-last, goes-fewer}
 use Rattle.ats_engine_proofs.proofs.Placed.{in_order_from-le, stands-at_most}
 use Rattle.ats_engine_proofs.proofs.Rows.{firsts-are, frames-all, named-one, next-apart, place-names}
 use Rattle.ats_engine_proofs.proofs.Rows.{port-one, release-one, row-is}
-use Rattle.ats_engine_proofs.proofs.Stages.{next-moment, next-coming, next-due, next-sending, next-selecting}
+use Rattle.ats_engine_proofs.proofs.Stages.{next-moment, next-coming, next-due, next-selecting}
 use Rattle.ats_engine_proofs.proofs.Stages.{stage-within}
 use Rattle.ats_engine_proofs.proofs.Stages.{turn-within}
 use Rattle.ats_engine_proofs.proofs.Ways.{stands-some}
@@ -73,16 +77,6 @@ at_stage {T} {key} {wait} {network} {releases} {course} {entries} row stage hold
       at = at;
       is = subst (IsFrame network course (progress_at course.records row)) at (holds.frames row within);
     }
-
--- the next event is within the horizon
-in_time : {T : Type 0} {key : T → ℕ → ℕ → ℕ} {wait : ℕ → ℕ → ℕ} {network : DeclaredNetwork}
-    {releases : List Release} {course : Course T} {now : Moment} {event : Event} {entries : List (Moment × Event)}
-    → IsNext key wait network releases course now event entries → now.at.0 ≤ horizon
-in_time {T} {key} {wait} {network} {releases} {course} {now} {event} {entries} next =
-    let most : now.at.0 + all_left course ≤ horizon =
-    All-head (λ (entry : Moment × Event). entry.0.at.0 + all_left course ≤ horizon) (now, event) entries
-    next.holds.bounds.each in
-    omega arith
 
 -- a frame comes to a leg that begins there by its first record
 begun-room : {T : Type 0} {network : DeclaredNetwork} {course : Course T} (row : ℕ) → IsNetwork network
@@ -109,7 +103,7 @@ may-come {T} {key} {wait} {network} {releases} {course} {now} {row} {entries} ne
     let more : length progress.hops < length (path_of network progress) =
     goes-fewer (path_of network progress) progress.hops goes in
     let own : HasRoom course.records row = record { within = at.within; more = omega (arith, at.is.room, more) } in
-    let time : now.at.0 ≤ horizon = in_time next in
+    let time : now.at.0 ≤ horizon = next-in_time next in
     record {
       stages = next.holds.shape.stages;
       may_come = record {
@@ -199,9 +193,8 @@ held-there {T} {key} {wait} {network} {releases} {course} {entries} {port} {o} h
       sender = known;
       passes = subst (λ (r : Release). Contains (sender_at network r.sender).ports port) (sym one)
           (contains-leg network p.release.sender p.leg port holds.rules at.sender at.leg has);
-      came = λ r leg.
-          subst (λ (n : ℕ). (n < length course.records) × (0 < length (progress_at course.records n).hops))
-          (one_leg r leg) (held.within, some);
+      came = λ r leg. subst (IsPlaced network course.records) (one_leg r leg)
+          (standing-placed course.records held.row held.within at);
       eligible = λ r leg.
           subst (λ (n : ℕ). IsEligible (last_hop (progress_at course.records n)).verdict) (one_leg r leg)
           (subst IsEligible (sym (standing-last at).verdict) tt);
@@ -281,6 +274,25 @@ may-be-offered {T} {key} {wait} {network} {releases} {course} {now} {row} {entri
           omega (arith, less, eligible));
     }
 
+-- from when on the next frame may arrive behind a port is before the end of time
+from-le : {T : Type 0} {key : T → ℕ → ℕ → ℕ} {wait : ℕ → ℕ → ℕ} {network : DeclaredNetwork}
+    {releases : List Release} {course : Course T} {entries : List (Moment × Event)} (port : ℕ)
+    → Holds key wait network releases course entries → port < length network.topology.ports
+    → arrives_from_at course port ≤ END
+from-le {T} {key} {wait} {network} {releases} {course} {entries} port holds within =
+    let s : PortState T = port_state_at course port in
+    let paced : IsPaced wait network course port = holds.paces port within in
+    let link : IsPort (length network.topology.nodes) (port_at network.topology.ports port) =
+    (ports_are_lawful network.topology holds.rules.topology).each port no_port within in
+    let last : last_end s.sent + all_left course ≤ horizon =
+    holds.bounds.ends port (opened 0 [] course.tie) (omega (arith, holds.shape.ports)) in
+    let crossings : List Crossing = crossings_so_far network course port in
+    let most = in_order_from-le END END crossings (λ k d h. (
+    let ends = crossed-ended key network course port s (holds.ports port within) k d h in
+    let arrives = paced.rule.within k d h in
+    omega (arith, ends, arrives.latest, link.latency, last))) in
+    omega (arith, paced.next, most)
+
 -- a port that selects next may do so
 pub may-select : {T : Type 0} {key : T → ℕ → ℕ → ℕ} {wait : ℕ → ℕ → ℕ} {network : DeclaredNetwork}
     {releases : List Release} {course : Course T} {now : Moment} {port : ℕ} {entries : List (Moment × Event)}
@@ -291,72 +303,28 @@ may-select {T} {key} {wait} {network} {releases} {course} {now} {port} {entries}
     let inside : port < length network.topology.ports = omega (arith, next.holds.shape.turns) in
     let standing : PortState T = port_state_at course port in
     let kept : IsPortOf key network course port standing = next.holds.ports port inside in
-    let turn : (standing.is_sending ≡ false) × IsFirstStart standing.held standing.sent now.at.0 =
+    let turn : IsFirstStart standing.held standing.sent now.at.0 =
     subst (IsTurn standing) (next-selecting next) kept.turn in
-    let time : now.at.0 ≤ horizon = in_time next in
+    let link : IsPort (length network.topology.nodes) (port_at network.topology.ports port) =
+    (ports_are_lawful network.topology next.holds.rules.topology).each port no_port inside in
+    let time : now.at.0 ≤ horizon = next-in_time next in
     record {
       stages = next.holds.shape.stages;
       within = omega (arith, next.holds.shape.ports);
-      turns = within;
-      tie = kept.of_network.tie;
-      free = turn.0;
-      due = turn.1;
-      there = λ k d h. held-there next.holds (kept.holding.held k d h);
-      time = omega arith;
-    }
-
--- from when on the next frame may arrive behind a port is before the end of time
-from-le : {T : Type 0} {key : T → ℕ → ℕ → ℕ} {wait : ℕ → ℕ → ℕ} {network : DeclaredNetwork}
-    {releases : List Release} {course : Course T} {entries : List (Moment × Event)} (port : ℕ)
-    → Holds key wait network releases course entries → port < length network.topology.ports
-    → arrives_from_at course port ≤ END
-from-le {T} {key} {wait} {network} {releases} {course} {entries} port holds within =
-    let paced : IsPaced wait network course port = holds.paces port within in
-    let link : IsPort (length network.topology.nodes) (port_at network.topology.ports port) =
-    (ports_are_lawful network.topology holds.rules.topology).each port no_port within in
-    let last : course.last.at.0 + all_left course ≤ horizon = holds.bounds.last in
-    let crossings : List Crossing = crossings_so_far network course port in
-    let most = in_order_from-le END END crossings (λ k d h. (
-    let ends = paced.ended k d h in
-    let arrives = paced.rule.within k d h in
-    omega (arith, ends, arrives.latest, link.latency, last))) in
-    omega (arith, paced.next, most)
-
--- a transmission that ends next may end
-pub may-end : {T : Type 0} {key : T → ℕ → ℕ → ℕ} {wait : ℕ → ℕ → ℕ} {network : DeclaredNetwork}
-    {releases : List Release} {course : Course T} {now : Moment} {row : ℕ} {entries : List (Moment × Event)}
-    → IsNext key wait network releases course now (End row) entries → MayEnd network course now.at.0 row
-may-end {T} {key} {wait} {network} {releases} {course} {now} {row} {entries} next =
-    let stage : Stage = Sending now.at in
-    let at : IsAt network course row stage =
-    at_stage row stage next.holds (next-sending next) (λ (e : Sending now.at ≡ Over). (cc)) in
-    let progress : Progress = progress_at course.records row in
-    let stands : Stands (IsSentUntil now.at) (path_of network progress) progress.hops = at.is.stands.here.0 in
-    let here : IsStanding network (IsSentUntil now.at) progress = record {
-      rules = next.holds.rules;
-      sender = at.is.sender;
-      leg = at.is.leg;
-      stands = stands;
-    } in
-    let place : ℕ = place_at network course row in
-    let within : place < length network.topology.ports = standing-place here in
-    let kept : IsPortOf key network course place (port_state_at course place) = next.holds.ports place within in
-    let sends : Sends (port_state_at course place) progress.frame now.at.0 =
-    kept.sends.sending row now.at at.within at.at refl in
-    let link : IsPort (length network.topology.nodes) (port_at network.topology.ports place) =
-    (ports_are_lawful network.topology next.holds.rules.topology).each place no_port within in
-    let time : now.at.0 ≤ horizon = in_time next in
-    record {
-      stages = next.holds.shape.stages;
-      placed = standing-placed course.records row at.within here;
-      port = omega (arith, next.holds.shape.ports);
       turns = next.holds.shape.turns ∙ sym next.holds.shape.ports;
       arrivals = next.holds.shape.arrives_from ∙ sym next.holds.shape.ports;
       links = next.holds.shape.ports;
-      sending = sends.sending;
-      end = sends.end;
+      tie = kept.of_network.tie;
+      free = kept.free;
+      due = turn;
+      there = λ k d h. held-there next.holds (kept.holding.held k d h);
+      time = omega arith;
+      ends = λ k d h. (
+          let o : Offer = get_or standing.held k d in
+          let most = held-most next.holds port o inside (kept.holding.held k d h) in
+          let same = ap (λ (ps : ℕ). ps * bits_of o.octets) kept.of_network.ps_per_bit in
+          omega (arith, most, same));
       spread = link.spread;
       earliest = omega (arith, link.ordered, link.latency);
-      from = from-le place next.holds within;
-      time = omega arith;
+      from = from-le port next.holds inside;
     }

@@ -1,48 +1,40 @@
-use Rattle.std.proofs.Common.{◌≡◌, ℕ, ◌<◌, List, length, get_or, Some, ap, ◌∙◌}
+use Rattle.std.proofs.Common.{◌≡◌, ℕ, ◌<◌, List, length, ap, ◌∙◌}
 use Rattle.std.proofs.Common.{sym, subst, inl, inr}
-use Rattle.std.specs.Prelude.{◌≢◌, ◌-◌, ◌==◌}
+use Rattle.std.specs.Prelude.{◌≢◌, ◌==◌}
 use Rattle.std.proofs.lemmas.Bool.{cases_Bool, cond-true, cond-false}
-use Rattle.std.proofs.lemmas.List.{length-set}
 use Rattle.ats_num.specs.declared.time.Ps.{Ps}
 use Rattle.ats_group.specs.declared.verdict.Verdict.{Verdict}
 use Rattle.ats_group.specs.declared.verdict.Verdict.TheVariants.{Eligible, Late, Size}
 use Rattle.ats_network.specs.Network.{DeclaredNetwork}
 use Rattle.ats_events.specs.declared.moment.Moment.{Moment}
 use Rattle.ats_trace.specs.declared.journey.Release.{Release}
-use Rattle.ats_run_records.specs.Progress.{Progress, last_hop, with_sent}
-use Rattle.ats_engine_steps.specs.Course.{Course, path_of, stage_at, place_of, place_at}
+use Rattle.ats_run_records.specs.Progress.{Progress}
+use Rattle.ats_engine_steps.specs.Course.{Course, path_of, stage_at, place_at}
 use Rattle.ats_engine_steps.specs.Steps.{Move, leaves_for, stage_by}
 use Rattle.ats_engine_steps.specs.declared.event.Event.{Event}
 use Rattle.ats_engine_steps.specs.declared.stage.Stage.{Stage}
-use Rattle.ats_engine_steps.specs.declared.stage.Stage.TheVariants.{Apart, Coming, Due, Waiting, Sending, Over}
+use Rattle.ats_engine_steps.specs.declared.stage.Stage.TheVariants.{Apart, Coming, Due, Waiting, Over}
 use Rattle.ats_engine_proofs.specs.Next.{IsNext}
 use Rattle.ats_engine_proofs.proofs.PortKept.{IsAway}
 use Rattle.ats_engine_proofs.proofs.Stages.{stage-within}
 
--- a frame at this stage of a leg is held by no port of it, and sent by none
+-- a frame at this stage of a leg is held by no port of it
 abbrev pub IsBetween : Stage → Type 0
 IsBetween Apart = Unit {0}
 IsBetween (Coming at) = Unit {0}
 IsBetween (Due at) = Unit {0}
 IsBetween Waiting = ⊥
-IsBetween (Sending until) = ⊥
 IsBetween Over = Unit {0}
 
 -- so it is away from each
 pub between-away : {T : Type 0} (network : DeclaredNetwork) (course : Course T) (port row : ℕ) (stage : Stage)
     → stage_at course row ≡ stage → IsBetween stage → IsAway network course port row
-between-away network course port row stage is between = record {
-  waiting = λ e place. subst IsBetween (sym is ∙ e) between;
-  sending = λ until e place. subst IsBetween (sym is ∙ e) between;
-}
+between-away network course port row stage is between e place = subst IsBetween (sym is ∙ e) between
 
 -- a frame is away from all ports but the one that it stands at
 pub placed-away : {T : Type 0} (network : DeclaredNetwork) (course : Course T) (port other row : ℕ)
     → place_at network course row ≡ port → other ≢ port → IsAway network course other row
-placed-away network course port other row place apart = record {
-  waiting = λ e at. apart (sym at ∙ place);
-  sending = λ until e at. apart (sym at ∙ place);
-}
+placed-away network course port other row place apart e at = apart (sym at ∙ place)
 
 -- a leg at a stage that is not the last has a row
 pub row-within : {T : Type 0} {key : T → ℕ → ℕ → ℕ} {wait : ℕ → ℕ → ℕ} {network : DeclaredNetwork}
@@ -61,13 +53,6 @@ stage-between Size = tt
 -- a frame that is due is not over
 pub due-over : (at : Ps) → Due at ≢ Over
 due-over at e = cc
-
--- the last hop record keeps its place once it tells of a transmission
-pub sent-place : (network : DeclaredNetwork) (p : Progress) (start end : Ps)
-    → place_of network (with_sent p start end) ≡ place_of network p
-sent-place network p start end =
-    ap (λ (n : ℕ). get_or (path_of network p) (n - 1) 0) (length-set p.hops (length p.hops - 1)
-    (record (last_hop p) { sent = Some (start, end) }))
 
 -- a frame that was sent keeps its release
 pub leaves-release : (network : DeclaredNetwork) (row : ℕ) (p : Progress) (at : Ps)
@@ -88,7 +73,3 @@ leaves-between network row p at =
       | inl e ↦ subst IsBetween (sym (ap (λ (m : Move). m.stage) (cond-true _ _ _ e))) tt
       | inr e ↦ subst IsBetween (sym (ap (λ (m : Move). m.stage) (cond-false _ _ _ e))) tt
     ]
-
--- nor is one that is being sent
-pub sending-over : (until : Ps) → Sending until ≢ Over
-sending-over until e = cc

@@ -20,7 +20,7 @@ use Rattle.ats_engine_steps.specs.Invariant.{Holds}
 use Rattle.ats_engine_steps.specs.Steps.{begins_in, rows_next}
 use Rattle.ats_engine_steps.specs.declared.event.Event.{Event}
 use Rattle.ats_engine_steps.specs.declared.stage.Stage.{Stage}
-use Rattle.ats_engine_steps.specs.declared.stage.Stage.TheVariants.{Apart, Coming, Due, Waiting, Sending, Over}
+use Rattle.ats_engine_steps.specs.declared.stage.Stage.TheVariants.{Apart, Coming, Due, Waiting, Over}
 use Rattle.ats_engine_proofs.proofs.Rows.{BeginsThere, next-are, row-is}
 
 -- a frame has not come to where a leg begins
@@ -46,7 +46,6 @@ only-apart path p (Coming time) copy is at =
     absurd (not-begun_by p.leg copy p.release p.hops time is at.here.1)
 only-apart path p (Due time) copy is at = absurd (not-begun p.leg copy p.release p.hops is at.here.1)
 only-apart path p Waiting copy is at = absurd (not-begun p.leg copy p.release p.hops is at.here.1)
-only-apart path p (Sending until) copy is at = absurd (not-begun p.leg copy p.release p.hops is at.here.1)
 only-apart path p Over copy is at = absurd (not-begun p.leg copy p.release p.hops is at.begun)
 
 -- where a leg begins at the hop to which a frame comes next, there is no record

@@ -1,5 +1,5 @@
 -- Where nothing is to happen any more, the run is over.
-use Rattle.std.proofs.Common.{◌≡◌, ℕ, ◌-◌, ◌<◌, ◌≤◌, true, List, [], ◌∷◌, length, map, All, Option, Some}
+use Rattle.std.proofs.Common.{◌≡◌, ℕ, ◌-◌, ◌<◌, ◌≤◌, List, [], ◌∷◌, length, map, All, Option, Some}
 use Rattle.std.proofs.Common.{refl, sym, ap, ◌∙◌, subst, inl, inr, arith, IsPermutation}
 use Rattle.std.specs.Prelude.{Contains, IfSome, ◌⊎◌}
 use Rattle.std.specs.List.{zip}
@@ -28,17 +28,17 @@ use Rattle.ats_trace.specs.declared.journey.Release.{Release}
 use Rattle.ats_run_records.specs.Progress.{Progress, progress_at, finished, told_of}
 use Rattle.ats_engine_steps.specs.Course.{Course, stage_at, turn_at, travels, path_of, place_at, offer_at, ending_by}
 use Rattle.ats_engine_steps.specs.Course.{told_by, sent_so_far, crossings_so_far, handed_so_far}
-use Rattle.ats_engine_steps.specs.Entries.{moment_of, arrival_by, eligibility_by, end_by, selection_by}
+use Rattle.ats_engine_steps.specs.Entries.{moment_of, arrival_by, eligibility_by, selection_by}
 use Rattle.ats_engine_steps.specs.Frames.{IsFrame, IsUnsent}
 use Rattle.ats_engine_steps.specs.Invariant.{Holds, IsShaped}
 use Rattle.ats_engine_steps.specs.Judging.{IsGroupOf}
 use Rattle.ats_engine_steps.specs.Ports.{IsPortOf, IsTurn, port_state_at}
 use Rattle.ats_engine_steps.specs.declared.event.Event.{Event}
-use Rattle.ats_engine_steps.specs.declared.event.Event.TheVariants.{End, Arrival, Eligibility, Selection}
+use Rattle.ats_engine_steps.specs.declared.event.Event.TheVariants.{Arrival, Eligibility, Selection}
 use Rattle.ats_engine_steps.specs.declared.stage.Stage.{Stage}
-use Rattle.ats_engine_steps.specs.declared.stage.Stage.TheVariants.{Apart, Coming, Due, Waiting, Sending, Over}
+use Rattle.ats_engine_steps.specs.declared.stage.Stage.TheVariants.{Apart, Coming, Due, Waiting, Over}
 use Rattle.ats_engine_steps.specs.declared.turn.Turn.{Turn}
-use Rattle.ats_engine_steps.specs.declared.turn.Turn.TheVariants.{Resting, Selecting, Occupied}
+use Rattle.ats_engine_steps.specs.declared.turn.Turn.TheVariants.{Resting, Selecting}
 use Rattle.ats_engine_proofs.proofs.Classes.{IsKnown, none-above}
 pub use Rattle.ats_engine_proofs.proofs.Finished.{ledger_in}
 use Rattle.ats_engine_proofs.proofs.Finished.{releases-told}
@@ -70,18 +70,9 @@ waits-or-ended holds row (Coming at) is =
 waits-or-ended holds row (Due at) is =
     absurd (none-to-come holds (Eligibility row) _ (ap (eligibility_by row) is))
 waits-or-ended holds row Waiting is = inl refl
-waits-or-ended holds row (Sending until) is = absurd (none-to-come holds (End row) _ (ap (end_by row) is))
 waits-or-ended holds row Over is = inr (inl refl)
 
--- no port sends
-none-sends : {T : Type 0} {key : T → ℕ → ℕ → ℕ} {wait : ℕ → ℕ → ℕ} {network : DeclaredNetwork}
-    {releases : List Release} {course : Course T} → Holds key wait network releases course [] → (port : ℕ)
-    → port < length network.topology.ports → (port_state_at course port).is_sending ≡ true → ⊥
-none-sends {T} {key} {wait} {network} {releases} {course} holds port within sends =
-    let way = (holds.ports port within).sends.under_way sends in
-    none-to-come holds (End way.row) _ (ap (end_by way.row) way.stage)
-
--- so none holds a frame
+-- no port holds a frame
 none-held : {T : Type 0} {key : T → ℕ → ℕ → ℕ} {wait : ℕ → ℕ → ℕ} {network : DeclaredNetwork}
     {releases : List Release} {course : Course T} → Holds key wait network releases course [] → (port : ℕ)
     → port < length network.topology.ports → (offer : Offer) → Contains (port_state_at course port).held offer → ⊥
@@ -89,9 +80,8 @@ none-held {T} {key} {wait} {network} {releases} {course} holds port within offer
     by (turn_at course port) refl (holds.ports port within).turn
   where
     by : (turn : Turn) → turn_at course port ≡ turn → IsTurn (port_state_at course port) turn → ⊥
-    by Resting is rests = none-contained offer (subst (λ (held : List Offer). Contains held offer) rests.1 has)
+    by Resting is rests = none-contained offer (subst (λ (held : List Offer). Contains held offer) rests has)
     by (Selecting at) is selects = none-to-come holds (Selection port) _ (ap (selection_by port) is)
-    by Occupied is sends = none-sends holds port within sends
 
 -- and no frame waits
 none-waits : {T : Type 0} {key : T → ℕ → ℕ → ℕ} {wait : ℕ → ℕ → ℕ} {network : DeclaredNetwork}

@@ -2,17 +2,13 @@
 use Rattle.std.proofs.Common.{◌≡◌, ℕ, ◌+◌, ◌*◌, ◌<◌, ◌≤◌, Bool, true, false, List, [], ◌∷◌, ◌++◌, length, get_or}
 use Rattle.std.proofs.Common.{set, All, Option, Some, map, IsPermutation, refl, sym, ap, ◌∙◌, subst, inl, inr, arith}
 use Rattle.std.specs.Prelude.{◌≢◌, ◌==◌, AllPairs, slice_index_or, if◌then◌else◌}
-use Rattle.std.proofs.lemmas.Bool.{cases_lt, true≢false}
+use Rattle.std.proofs.lemmas.Bool.{cases_lt}
 use Rattle.std.proofs.lemmas.List.{length-map}
 use Rattle.std.proofs.lemmas.List.Elements.{All-append, All-cons, All-contains_itself, All-map, All-nil}
 use Rattle.std.proofs.lemmas.List.Sorted.{All-permutation, Contains-permutation}
-use Rattle.std.proofs.Math.Nat.{mul-le-mul_right}
 use Rattle.std.proofs.lemmas.Option.{none-some, IfSome_then}
 use Rattle.ats_facts.proofs.Pairs.{AllPairs-permutation}
 use Rattle.ats_num.specs.declared.time.Ps.{Ps}
-use Rattle.ats_num.specs.Wire.{bits_of}
-use Rattle.ats_topology.specs.Port.{port_at, no_port}
-use Rattle.ats_topology.specs.Topology.{DeclaredTopology, IsTopology}
 use Rattle.ats_topology.specs.declared.link.TheConstants.{MAX_LINKS}
 use Rattle.ats_topology.proofs.Rules.{ports_are_lawful}
 use Rattle.ats_network.specs.Network.{DeclaredNetwork}
@@ -21,30 +17,30 @@ use Rattle.ats_group.specs.declared.verdict.Verdict.{Verdict}
 use Rattle.ats_group.specs.declared.verdict.Verdict.TheVariants.{Eligible, Late, Size}
 use Rattle.ats_transmit.specs.Sending.{last_end}
 use Rattle.ats_transmit.specs.State.{PortState}
-use Rattle.ats_run_records.specs.Progress.{Progress, progress_at, with_ending}
+use Rattle.ats_run_records.specs.Progress.{Progress, progress_at, with_ending, with_sent}
 use Rattle.ats_trace.specs.declared.journey.Ending.TheVariants.{Sink}
 use Rattle.ats_events.specs.declared.moment.Moment.{Moment}
-use Rattle.ats_events.specs.declared.phase.TheConstants.{TRANSMISSION_END, ARRIVAL, ELIGIBLE}
+use Rattle.ats_events.specs.declared.phase.TheConstants.{ARRIVAL, ELIGIBLE}
 use Rattle.ats_events.specs.Order.{IsInRange, IsIrreflexive, IsTransitive, IsTimed}
 use Rattle.ats_trace.specs.declared.journey.Release.{Release}
 use Rattle.ats_trace.specs.declared.run.TheConstants.{MAX_HOPS}
 use Rattle.ats_engine_steps.specs.Bounds.{all_left, horizon}
 use Rattle.ats_engine_steps.specs.Course.{Course, stage_at, turn_at, place_at, path_of}
 use Rattle.ats_engine_steps.specs.Entries.{AreAwaited, IsReached, moment_of, arrival_moment, eligible_moment}
-use Rattle.ats_engine_steps.specs.Entries.{arrival_by, eligibility_by, end_by, end_moment}
+use Rattle.ats_engine_steps.specs.Entries.{arrival_by, eligibility_by}
 use Rattle.ats_engine_steps.specs.Entries.{selection_moment}
 use Rattle.ats_engine_steps.specs.Invariant.{Holds}
-use Rattle.ats_engine_steps.specs.Frames.{IsFrame, IsDueAt, IsSentUntil}
-use Rattle.ats_engine_steps.specs.Ports.{IsTurn, Sends, port_state_at}
-use Rattle.ats_engine_steps.specs.Steps.{Comes, BecomesEligible, Selects, Ends, Move, due_by, due_entries}
+use Rattle.ats_engine_steps.specs.Frames.{IsFrame, IsDueAt}
+use Rattle.ats_engine_steps.specs.Ports.{IsTurn}
+use Rattle.ats_engine_steps.specs.Steps.{Comes, BecomesEligible, Selects, Move, due_by, due_entries}
 use Rattle.ats_engine_steps.specs.Steps.{rows_next, selections, selections_once_offered, set_each, stage_by}
 use Rattle.ats_engine_steps.specs.Steps.{turn_once_offered}
 use Rattle.ats_engine_steps.specs.declared.event.Event.{Event}
-use Rattle.ats_engine_steps.specs.declared.event.Event.TheVariants.{End, Arrival, Eligibility, Selection}
+use Rattle.ats_engine_steps.specs.declared.event.Event.TheVariants.{Arrival, Eligibility, Selection}
 use Rattle.ats_engine_steps.specs.declared.stage.Stage.{Stage}
-use Rattle.ats_engine_steps.specs.declared.stage.Stage.TheVariants.{Apart, Coming, Due, Waiting, Sending, Over}
+use Rattle.ats_engine_steps.specs.declared.stage.Stage.TheVariants.{Apart, Coming, Due, Waiting, Over}
 use Rattle.ats_engine_steps.specs.declared.turn.Turn.{Turn}
-use Rattle.ats_engine_steps.specs.declared.turn.Turn.TheVariants.{Resting, Selecting, Occupied}
+use Rattle.ats_engine_steps.specs.declared.turn.Turn.TheVariants.{Resting, Selecting}
 use Rattle.ats_engine_proofs.specs.Next.{IsNext, IsAfter}
 use Rattle.ats_engine_proofs.proofs.Allowed.{may-come}
 use Rattle.ats_engine_proofs.proofs.Awaited.{Brings}
@@ -53,18 +49,19 @@ use Rattle.ats_engine_proofs.proofs.Counting.{numbers_below}
 use Rattle.ats_engine_proofs.proofs.Fates.{entries_by, Enters, IsFreeRow, Steps, Turns, brings_one, brings_both}
 use Rattle.ats_engine_proofs.proofs.Fates.{brings_each, stage_due}
 use Rattle.ats_engine_proofs.proofs.FewRows.{rows-few}
+use Rattle.ats_engine_proofs.proofs.Lasting.{selects-later}
 use Rattle.ats_engine_proofs.proofs.ListFacts.{pairs-map}
 use Rattle.ats_engine_proofs.proofs.Placed.{IsStanding, standing-place}
+use Rattle.ats_engine_proofs.proofs.PortSteps.{offered-at, selects-last}
 use Rattle.ats_engine_proofs.proofs.Rows.{next-own, set_each-at, set_each-off}
 use Rattle.ats_engine_proofs.proofs.Travels.{selects-stage}
-use Rattle.ats_engine_proofs.proofs.Stages.{next-coming, next-due, next-sending, next-selecting, stage-within}
+use Rattle.ats_engine_proofs.proofs.Stages.{next-coming, next-due, next-selecting, stage-within}
 use Rattle.ats_engine_proofs.proofs.Stages.{turn-within}
 use Rattle.ats_engine_proofs.proofs.Verdicts.{IsSoon, soon_now}
 use Rattle.ats_engine_proofs.proofs.Events.{phase_of, number_of, IsOf, is-of, same-event, is-within, place_by}
 use Rattle.ats_engine_proofs.proofs.Events.{place-below}
 use Rattle.ats_engine_proofs.proofs.Events.{event_at, at-place, number-below, phase-below}
 use Rattle.ats_engine_proofs.proofs.Follow.{awaited-by, next-of, eligibility-here, selection-here}
-use Rattle.ats_engine_proofs.proofs.Follow.{end-here}
 use Rattle.ats_engine_proofs.proofs.Follow.{set-here, set-elsewhere, turned-here, turned-elsewhere, row-within}
 
 -- a move that is the same as one that brings the entry of its stage does so too
@@ -111,7 +108,6 @@ comes-after {T} {key} {wait} {network} {releases} {old} {new} {now} {row} {entri
 free-coming : {T : Type 0} (old : Course T) (row : ℕ) (at : Ps) → stage_at old row ≡ Coming at
     → IsFreeRow (moment_of old) (Arrival row) row
 free-coming old row at was = record {
-  end = λ m is. absurd (none-some m (ap (end_by row) (sym was) ∙ is));
   arrival = λ m is. refl;
   eligibility = λ m is. absurd (none-some m (ap (eligibility_by row) (sym was) ∙ is));
 }
@@ -119,7 +115,6 @@ free-coming old row at was = record {
 free-apart : {T : Type 0} (old : Course T) (happened : Event) (row : ℕ) → stage_at old row ≡ Apart
     → IsFreeRow (moment_of old) happened row
 free-apart old happened row was = record {
-  end = λ m is. absurd (none-some m (ap (end_by row) (sym was) ∙ is));
   arrival = λ m is. absurd (none-some m (ap (arrival_by row) (sym was) ∙ is));
   eligibility = λ m is. absurd (none-some m (ap (eligibility_by row) (sym was) ∙ is));
 }
@@ -183,13 +178,13 @@ row-at {T} {key} {wait} {network} {releases} {course} row s holds was other =
     (holds.frames row (stage-within course row s holds.shape.stages was other))
 
 -- a selection that a frame brings which becomes eligible is later
-offered-later : (now : Moment) (port : ℕ) (t : Turn) → now.phase ≡ ELIGIBLE
-    → All (λ (x : Moment × Event). IsAfter now x.0) (selections_once_offered port t now.at)
-offered-later now port Resting is =
-    All-cons (λ (x : Moment × Event). IsAfter now x.0) (selection_moment port now.at, Selection port) []
-    (record { time = omega arith; phase = λ same. omega arith }) (All-nil (λ (x : Moment × Event). IsAfter now x.0))
-offered-later now port (Selecting at) is = All-nil (λ (x : Moment × Event). IsAfter now x.0)
-offered-later now port Occupied is = All-nil (λ (x : Moment × Event). IsAfter now x.0)
+offered-later : (now : Moment) (port : ℕ) (at : Ps) (t : Turn) → now.phase ≡ ELIGIBLE
+    → (t ≡ Resting → now.at.0 ≤ at.0)
+    → All (λ (x : Moment × Event). IsAfter now x.0) (selections_once_offered port t at)
+offered-later now port at Resting is later =
+    All-cons (λ (x : Moment × Event). IsAfter now x.0) (selection_moment port at, Selection port) []
+    (record { time = later refl; phase = λ same. omega arith }) (All-nil (λ (x : Moment × Event). IsAfter now x.0))
+offered-later now port at (Selecting time) is later = All-nil (λ (x : Moment × Event). IsAfter now x.0)
 
 -- what a frame that becomes eligible brings is later
 pub offered-after : {T : Type 0} {key : T → ℕ → ℕ → ℕ} {wait : ℕ → ℕ → ℕ} {network : DeclaredNetwork}
@@ -198,19 +193,18 @@ pub offered-after : {T : Type 0} {key : T → ℕ → ℕ → ℕ} {wait : ℕ �
     → BecomesEligible key network old new now row more → All (λ (entry : Moment × Event). IsAfter now entry.0) more
 offered-after {T} {key} {wait} {network} {releases} {old} {new} {now} {row} {entries} {more} next step =
     subst (λ (es : List (Moment × Event)). All (λ (x : Moment × Event). IsAfter now x.0) es) (sym step.brings)
-    (offered-later now step.port (turn_at old step.port) (next-of next).phase)
+    (offered-later now step.port step.at (turn_at old step.port) (next-of next).phase
+    (λ rests. omega (arith, offered-at next step rests)))
 
 -- what a frame that becomes eligible brings, by what its port does next
-offered-brings : {T : Type 0} (old new : Course T) (now : Moment) (row port : ℕ) (t : Turn)
+offered-brings : {T : Type 0} (old new : Course T) (now : Moment) (row port : ℕ) (at : Ps) (t : Turn)
     → Steps old new (Eligibility row) row port (Due now.at) Waiting → turn_at old port ≡ t
-    → turn_at new port ≡ turn_once_offered t now.at
-    → Brings (moment_of old) (moment_of new) (Eligibility row) (selections_once_offered port t now.at)
-offered-brings old new now row port Resting steps was becomes =
-    brings_both old new (Eligibility row) row port (Due now.at) Waiting Resting (Selecting now.at) steps
+    → turn_at new port ≡ turn_once_offered t at
+    → Brings (moment_of old) (moment_of new) (Eligibility row) (selections_once_offered port t at)
+offered-brings old new now row port at Resting steps was becomes =
+    brings_both old new (Eligibility row) row port (Due now.at) Waiting Resting (Selecting at) steps
     (record { was = was; becomes = becomes; selection = λ m is. absurd (none-some m is) })
-offered-brings old new now row port (Selecting at) steps was becomes =
-    brings_one old new (Eligibility row) row port (Due now.at) Waiting steps (λ e. cc) (becomes ∙ sym was)
-offered-brings old new now row port Occupied steps was becomes =
+offered-brings old new now row port at (Selecting time) steps was becomes =
     brings_one old new (Eligibility row) row port (Due now.at) Waiting steps (λ e. cc) (becomes ∙ sym was)
 
 -- the events that are to happen after a frame became eligible
@@ -221,7 +215,7 @@ pub offered-awaited : {T : Type 0} {key : T → ℕ → ℕ → ℕ} {wait : ℕ
 offered-awaited {T} {key} {wait} {network} {releases} {old} {new} {now} {row} {entries} {more} next step =
     let was : stage_at old row ≡ Due now.at = next-due next in
     let is = row-at row (Due now.at) next.holds was (λ e. cc) in
-    let turn : Turn = turn_once_offered (turn_at old step.port) now.at in
+    let turn : Turn = turn_once_offered (turn_at old step.port) step.at in
     let staged : new.stages ≡ set old.stages row Waiting = ap (λ (c : Course T). c.stages) step.becomes in
     let turned : new.turns ≡ set old.turns step.port turn = ap (λ (c : Course T). c.turns) step.becomes in
     let here : IsStanding network (IsDueAt now.at) (progress_at old.records row) =
@@ -233,198 +227,88 @@ offered-awaited {T} {key} {wait} {network} {releases} {old} {new} {now} {row} {e
       turns = turned-elsewhere old new step.port turn turned;
       was = was;
       becomes = set-here new old.stages row Waiting (row-within old row (Due now.at) was (λ e. cc)) staged;
-      end = λ m is. absurd (none-some m is);
       arrival = λ m is. absurd (none-some m is);
       eligibility = λ m is. refl;
     } in
     awaited-by new more next (ap (λ (c : Course T). c.last) step.becomes)
     (subst (Brings (moment_of old) (moment_of new) (Eligibility row)) (sym step.brings)
-    (offered-brings old new now row step.port (turn_at old step.port) steps refl
+    (offered-brings old new now row step.port step.at (turn_at old step.port) steps refl
     (turned-here new old.turns step.port turn (omega (arith, next.holds.shape.turns, step.place)) turned)))
     (offered-after next step)
 
--- a transmission takes some time
-sending-takes : (topology : DeclaredTopology) (port octets : ℕ) → IsTopology topology → port < length topology.ports
-    → 1 ≤ (port_at topology.ports port).ps_per_bit * bits_of octets
-sending-takes topology port octets rules within =
-    let rate = ((ports_are_lawful topology rules).each port no_port within).rate in
-    let ps : ℕ = (port_at topology.ports port).ps_per_bit in
-    let least : 1 ≤ ps = omega (arith, rate.least) in
-    omega (arith, mul-le-mul_right (bits_of octets) least)
+-- what is to happen to a frame that is sent does so later
+leaves-later : (now : Moment) (row : ℕ) (p q : Progress) (at : Ps) (last : Bool) → now.at.0 < at.0
+    → All (λ (x : Moment × Event). IsAfter now x.0) (left_by row p q at last).entries
+leaves-later now row p q at true later = All-nil (λ (x : Moment × Event). IsAfter now x.0)
+leaves-later now row p q at false later =
+    All-cons (λ (x : Moment × Event). IsAfter now x.0) (arrival_moment row at, Arrival row) []
+    (record { time = omega arith; phase = λ same. absurd (omega arith) })
+    (All-nil (λ (x : Moment × Event). IsAfter now x.0))
 
--- a port that selects is one of the network
-pub selecting-within : {T : Type 0} {key : T → ℕ → ℕ → ℕ} {wait : ℕ → ℕ → ℕ} {network : DeclaredNetwork}
-    {releases : List Release} {course : Course T} {now : Moment} {port : ℕ} {entries : List (Moment × Event)}
-    → IsNext key wait network releases course now (Selection port) entries
-    → port < length network.topology.ports
-selecting-within {T} {key} {wait} {network} {releases} {course} {now} {port} next =
-    let within : port < length course.turns =
-    turn-within course port (Selecting now.at) (next-selecting next) (λ e. cc) in
-    omega (arith, next.holds.shape.turns)
+-- and so does the next selection of its port
+selections-later : {T : Type 0} (now : Moment) (port : ℕ) (standing : PortState T) (turn : Turn)
+    → now.at.0 < last_end standing.sent → IsTurn standing turn
+    → All (λ (x : Moment × Event). IsAfter now x.0) (selections port turn)
+selections-later now port standing Resting later next = All-nil (λ (x : Moment × Event). IsAfter now x.0)
+selections-later now port standing (Selecting at) later next =
+    let free : last_end standing.sent ≤ at.0 = next.reached.free in
+    All-cons (λ (x : Moment × Event). IsAfter now x.0) (selection_moment port at, Selection port) []
+    (record { time = omega arith; phase = λ same. absurd (omega arith) })
+    (All-nil (λ (x : Moment × Event). IsAfter now x.0))
 
--- when a transmission that starts now ends
-pub selects-end : {T : Type 0} {key : T → ℕ → ℕ → ℕ} {wait : ℕ → ℕ → ℕ} {network : DeclaredNetwork}
-    {releases : List Release} {old new : Course T} {now : Moment} {port : ℕ} {entries more : List (Moment × Event)}
-    → IsNext key wait network releases old now (Selection port) entries
-    → (step : Selects key network old new now port more)
-    → step.end.0 ≡ now.at.0 + (port_at network.topology.ports port).ps_per_bit * bits_of step.starts.started.octets
-selects-end {T} {key} {wait} {network} {releases} {old} {new} {now} {port} next step =
-    step.starts.ends ∙ ap (λ (ps : ℕ). now.at.0 + ps * bits_of step.starts.started.octets)
-    (next.holds.ports port (selecting-within next)).of_network.ps_per_bit
-
--- the end of a transmission that starts is later
+-- what a selection brings is later
 pub selects-after : {T : Type 0} {key : T → ℕ → ℕ → ℕ} {wait : ℕ → ℕ → ℕ} {network : DeclaredNetwork}
     {releases : List Release} {old new : Course T} {now : Moment} {port : ℕ} {entries more : List (Moment × Event)}
-    → IsNext key wait network releases old now (Selection port) entries → Selects key network old new now port more
+    → IsNext key wait network releases old now (Selection port) entries → Selects key wait network old new now port more
     → All (λ (entry : Moment × Event). IsAfter now entry.0) more
 selects-after {T} {key} {wait} {network} {releases} {old} {new} {now} {port} {entries} {more} next step =
-    let takes = sending-takes network.topology port step.starts.started.octets next.holds.rules.topology
-    (selecting-within next) in
-    let ends = selects-end next step in
-    let later : now.at.0 < step.end.0 = omega arith in
-    subst (λ (es : List (Moment × Event)). All (λ (x : Moment × Event). IsAfter now x.0) es) (sym step.brings)
-    (All-cons (λ (x : Moment × Event). IsAfter now x.0) (end_moment step.row step.end, End step.row) []
-    (record { time = omega arith; phase = λ same. absurd (omega arith) })
-    (All-nil (λ (x : Moment × Event). IsAfter now x.0)))
+    let After : Moment × Event → Type 0 = λ (x : Moment × Event). IsAfter now x.0 in
+    let q : Progress = with_sent (progress_at old.records step.row) now.at step.end in
+    let later : now.at.0 < step.end.0 = selects-later next step in
+    let arrives = step.arrives in
+    let behind : now.at.0 < step.arrival.0 = omega arith in
+    subst (λ (es : List (Moment × Event)). All After es) (sym step.brings)
+    (All-append After step.move.entries (selections port step.turn)
+    (subst (λ (m : Move). All After m.entries) (sym step.is)
+    (leaves-later now step.row (with_ending q (Sink step.arrival)) q step.arrival
+    (length q.hops == length (path_of network q)) behind))
+    (selections-later now port step.standing step.turn (omega (arith, later, selects-last step)) step.next))
 
 -- the events that are to happen after a selection
 pub selects-awaited : {T : Type 0} {key : T → ℕ → ℕ → ℕ} {wait : ℕ → ℕ → ℕ} {network : DeclaredNetwork}
     {releases : List Release} {old new : Course T} {now : Moment} {port : ℕ} {entries more : List (Moment × Event)}
-    → IsNext key wait network releases old now (Selection port) entries → Selects key network old new now port more
+    → IsNext key wait network releases old now (Selection port) entries → Selects key wait network old new now port more
     → AreAwaited new (more ++ entries)
 selects-awaited {T} {key} {wait} {network} {releases} {old} {new} {now} {port} {entries} {more} next step =
     let f : ℕ = step.row in
+    let q : Progress = with_sent (progress_at old.records f) now.at step.end in
+    let t : Stage = step.move.stage in
     let was : stage_at old f ≡ Waiting = selects-stage next step in
-    let staged : new.stages ≡ set old.stages f (Sending step.end) = ap (λ (c : Course T). c.stages) step.becomes in
-    let turned : new.turns ≡ set old.turns port Occupied = ap (λ (c : Course T). c.turns) step.becomes in
-    let steps : Steps old new (Selection port) f port Waiting (Sending step.end) = record {
+    let staged : new.stages ≡ set old.stages f t = ap (λ (c : Course T). c.stages) step.becomes in
+    let turned : new.turns ≡ set old.turns port step.turn = ap (λ (c : Course T). c.turns) step.becomes in
+    let own : step.move.entries ≡ entries_by f t =
+    moved-entries f step.move _ step.is (leaves-entries f (with_ending q (Sink step.arrival)) q step.arrival
+    (length q.hops == length (path_of network q))) in
+    let steps : Steps old new (Selection port) f port Waiting t = record {
       here = selection-here f port;
-      stages = set-elsewhere old new f (Sending step.end) staged;
-      turns = turned-elsewhere old new port Occupied turned;
+      stages = set-elsewhere old new f t staged;
+      turns = turned-elsewhere old new port step.turn turned;
       was = was;
-      becomes = set-here new old.stages f (Sending step.end) (row-within old f Waiting was (λ e. cc)) staged;
-      end = λ m is. absurd (none-some m is);
+      becomes = set-here new old.stages f t (row-within old f Waiting was (λ e. cc)) staged;
       arrival = λ m is. absurd (none-some m is);
       eligibility = λ m is. absurd (none-some m is);
     } in
-    let turns : Turns old new (Selection port) port (Selecting now.at) Occupied = record {
+    let turns : Turns old new (Selection port) port (Selecting now.at) step.turn = record {
       was = next-selecting next;
-      becomes = turned-here new old.turns port Occupied
+      becomes = turned-here new old.turns port step.turn
           (turn-within old port (Selecting now.at) (next-selecting next) (λ e. cc)) turned;
       selection = λ m is. refl;
     } in
     awaited-by new more next (ap (λ (c : Course T). c.last) step.becomes)
-    (subst (Brings (moment_of old) (moment_of new) (Selection port)) (sym step.brings)
-    (brings_both old new (Selection port) f port Waiting (Sending step.end) (Selecting now.at) Occupied steps turns))
+    (subst (Brings (moment_of old) (moment_of new) (Selection port))
+    (sym (step.brings ∙ ap (λ (es : List (Moment × Event)). es ++ selections port step.turn) own))
+    (brings_both old new (Selection port) f port Waiting t (Selecting now.at) step.turn steps turns))
     (selects-after next step)
-
--- the frame whose transmission ends next is sent by the port of its last hop record
-pub ending-port : {T : Type 0} {key : T → ℕ → ℕ → ℕ} {wait : ℕ → ℕ → ℕ} {network : DeclaredNetwork}
-    {releases : List Release} {course : Course T} {now : Moment} {row : ℕ} {entries : List (Moment × Event)}
-    → IsNext key wait network releases course now (End row) entries
-    → place_at network course row < length network.topology.ports
-ending-port {T} {key} {wait} {network} {releases} {course} {now} {row} next =
-    let is = row-at row (Sending now.at) next.holds (next-sending next) (λ e. cc) in
-    let here : IsStanding network (IsSentUntil now.at) (progress_at course.records row) =
-    record { rules = next.holds.rules; sender = is.sender; leg = is.leg; stands = is.stands.here.0 } in
-    standing-place here
-
--- which sends it until now
-pub ending-sends : {T : Type 0} {key : T → ℕ → ℕ → ℕ} {wait : ℕ → ℕ → ℕ} {network : DeclaredNetwork}
-    {releases : List Release} {course : Course T} {now : Moment} {row : ℕ} {entries : List (Moment × Event)}
-    → IsNext key wait network releases course now (End row) entries
-    → Sends (port_state_at course (place_at network course row)) (progress_at course.records row).frame now.at.0
-ending-sends {T} {key} {wait} {network} {releases} {course} {now} {row} next =
-    let was = next-sending next in
-    (next.holds.ports (place_at network course row) (ending-port next)).sends.sending row now.at
-    (stage-within course row (Sending now.at) next.holds.shape.stages was (λ e. cc)) was refl
-
--- a port that sends goes on with it
-occupied-by : {T : Type 0} (standing : PortState T) (turn : Turn) → standing.is_sending ≡ true → IsTurn standing turn
-    → turn ≡ Occupied
-occupied-by standing Resting sending is = absurd (true≢false (sym sending ∙ is.0))
-occupied-by standing (Selecting at) sending is = absurd (true≢false (sym sending ∙ is.0))
-occupied-by standing Occupied sending is = refl
-
--- what is to happen after the end of a transmission does so later
-leaves-later : (now : Moment) (row : ℕ) (p q : Progress) (at : Ps) (last : Bool) → now.phase ≡ TRANSMISSION_END
-    → now.at.0 ≤ at.0 → All (λ (x : Moment × Event). IsAfter now x.0) (left_by row p q at last).entries
-leaves-later now row p q at true is later = All-nil (λ (x : Moment × Event). IsAfter now x.0)
-leaves-later now row p q at false is later =
-    All-cons (λ (x : Moment × Event). IsAfter now x.0) (arrival_moment row at, Arrival row) []
-    (record { time = later; phase = λ same. omega arith }) (All-nil (λ (x : Moment × Event). IsAfter now x.0))
-
--- and so does the next selection of the port
-selections-later : {T : Type 0} (now : Moment) (port : ℕ) (standing : PortState T) (turn : Turn)
-    → now.phase ≡ TRANSMISSION_END → last_end standing.sent ≡ now.at.0 → IsTurn standing turn
-    → All (λ (x : Moment × Event). IsAfter now x.0) (selections port turn)
-selections-later now port standing Resting is ended next = All-nil (λ (x : Moment × Event). IsAfter now x.0)
-selections-later now port standing (Selecting at) is ended next =
-    let free : last_end standing.sent ≤ at.0 = next.1.reached.free in
-    All-cons (λ (x : Moment × Event). IsAfter now x.0) (selection_moment port at, Selection port) []
-    (record { time = omega arith; phase = λ same. omega arith }) (All-nil (λ (x : Moment × Event). IsAfter now x.0))
-selections-later now port standing Occupied is ended next = All-nil (λ (x : Moment × Event). IsAfter now x.0)
-
--- what the end of a transmission brings is later
-pub ends-after : {T : Type 0} {key : T → ℕ → ℕ → ℕ} {wait : ℕ → ℕ → ℕ} {network : DeclaredNetwork}
-    {releases : List Release} {old new : Course T} {now : Moment} {row : ℕ} {entries more : List (Moment × Event)}
-    → IsNext key wait network releases old now (End row) entries → Ends key wait network old new now row more
-    → All (λ (entry : Moment × Event). IsAfter now entry.0) more
-ends-after {T} {key} {wait} {network} {releases} {old} {new} {now} {row} {entries} {more} next step =
-    let After : Moment × Event → Type 0 = λ (x : Moment × Event). IsAfter now x.0 in
-    let p : Progress = progress_at old.records row in
-    let phase : now.phase ≡ TRANSMISSION_END = (next-of next).phase in
-    let arrives = step.arrives in
-    let later : now.at.0 ≤ step.arrival.0 = omega arith in
-    let same : last_end step.standing.sent ≡ now.at.0 =
-    ap (λ (s : PortState T). last_end s.sent) step.free
-    ∙ ap (λ (port : ℕ). last_end (port_state_at old port).sent) (sym step.place) ∙ (ending-sends next).end in
-    subst (λ (es : List (Moment × Event)). All After es) (sym step.brings)
-    (All-append After step.move.entries (selections step.port step.turn)
-    (subst (λ (m : Move). All After m.entries) (sym step.is)
-    (leaves-later now row (with_ending p (Sink step.arrival)) p step.arrival
-    (length p.hops == length (path_of network p)) phase later))
-    (selections-later now step.port step.standing step.turn phase same step.next))
-
--- the events that are to happen after the end of a transmission
-pub ends-awaited : {T : Type 0} {key : T → ℕ → ℕ → ℕ} {wait : ℕ → ℕ → ℕ} {network : DeclaredNetwork}
-    {releases : List Release} {old new : Course T} {now : Moment} {row : ℕ} {entries more : List (Moment × Event)}
-    → IsNext key wait network releases old now (End row) entries → Ends key wait network old new now row more
-    → AreAwaited new (more ++ entries)
-ends-awaited {T} {key} {wait} {network} {releases} {old} {new} {now} {row} {entries} {more} next step =
-    let p : Progress = progress_at old.records row in
-    let t : Stage = step.move.stage in
-    let was : stage_at old row ≡ Sending now.at = next-sending next in
-    let staged : new.stages ≡ set old.stages row t = ap (λ (c : Course T). c.stages) step.becomes in
-    let turned : new.turns ≡ set old.turns step.port step.turn = ap (λ (c : Course T). c.turns) step.becomes in
-    let place : place_at network old row < length network.topology.ports = ending-port next in
-    let occupied : turn_at old step.port ≡ Occupied = subst (λ (port : ℕ). turn_at old port ≡ Occupied) step.place
-    (occupied-by (port_state_at old (place_at network old row)) (turn_at old (place_at network old row))
-    (ending-sends next).sending (next.holds.ports (place_at network old row) place).turn) in
-    let own : step.move.entries ≡ entries_by row t =
-    moved-entries row step.move _ step.is (leaves-entries row (with_ending p (Sink step.arrival)) p step.arrival
-    (length p.hops == length (path_of network p))) in
-    let steps : Steps old new (End row) row step.port (Sending now.at) t = record {
-      here = end-here row step.port;
-      stages = set-elsewhere old new row t staged;
-      turns = turned-elsewhere old new step.port step.turn turned;
-      was = was;
-      becomes = set-here new old.stages row t (row-within old row (Sending now.at) was (λ e. cc)) staged;
-      end = λ m is. refl;
-      arrival = λ m is. absurd (none-some m is);
-      eligibility = λ m is. absurd (none-some m is);
-    } in
-    let turns : Turns old new (End row) step.port Occupied step.turn = record {
-      was = occupied;
-      becomes = turned-here new old.turns step.port step.turn
-          (omega (arith, next.holds.shape.turns, step.place)) turned;
-      selection = λ m is. absurd (none-some m is);
-    } in
-    awaited-by new more next (ap (λ (c : Course T). c.last) step.becomes)
-    (subst (Brings (moment_of old) (moment_of new) (End row))
-    (sym (step.brings ∙ ap (λ (es : List (Moment × Event)). es ++ selections step.port step.turn) own))
-    (brings_both old new (End row) row step.port (Sending now.at) t Occupied step.turn steps turns))
-    (ends-after next step)
 
 -- what holds does not depend on the order of the entries
 pub holds-permuted : {T : Type 0} {key : T → ℕ → ℕ → ℕ} {wait : ℕ → ℕ → ℕ} {network : DeclaredNetwork}
@@ -454,6 +338,7 @@ holds-permuted {T} {key} {wait} {network} {releases} {course} {entries} {other} 
         last = holds.bounds.last;
         each = All-permutation (λ (x : Moment × Event). x.0.at.0 + all_left course ≤ horizon) entries other moved
             holds.bounds.each;
+        ends = holds.bounds.ends;
       };
     }
 

@@ -6,26 +6,24 @@ use Rattle.std.proofs.lemmas.Bool.{cases_lt, lt-ltb, le-ltb, cond-true, cond-fal
 use Rattle.std.proofs.lemmas.List.{get_or_past}
 use Rattle.std.proofs.lemmas.Option.{none-some, same_Some}
 use Rattle.ats_events.specs.declared.moment.Moment.{Moment}
-use Rattle.ats_events.specs.declared.phase.TheConstants.{TRANSMISSION_END, ARRIVAL, ELIGIBLE, SELECTION}
+use Rattle.ats_events.specs.declared.phase.TheConstants.{ARRIVAL, ELIGIBLE, SELECTION}
 use Rattle.ats_engine_steps.specs.Course.{Course, stage_at, turn_at}
-use Rattle.ats_engine_steps.specs.Entries.{moment_of, arrival_by, eligibility_by, end_by, selection_by, arrival_moment}
-use Rattle.ats_engine_steps.specs.Entries.{eligible_moment, end_moment, selection_moment}
+use Rattle.ats_engine_steps.specs.Entries.{moment_of, arrival_by, eligibility_by, selection_by, arrival_moment}
+use Rattle.ats_engine_steps.specs.Entries.{eligible_moment, selection_moment}
 use Rattle.ats_engine_steps.specs.declared.event.Event.{Event}
-use Rattle.ats_engine_steps.specs.declared.event.Event.TheVariants.{End, Arrival, Eligibility, Selection}
+use Rattle.ats_engine_steps.specs.declared.event.Event.TheVariants.{Arrival, Eligibility, Selection}
 use Rattle.ats_engine_steps.specs.declared.stage.Stage.{Stage}
-use Rattle.ats_engine_steps.specs.declared.stage.Stage.TheVariants.{Apart, Coming, Due, Waiting, Sending, Over}
+use Rattle.ats_engine_steps.specs.declared.stage.Stage.TheVariants.{Apart, Coming, Due, Waiting, Over}
 use Rattle.ats_engine_steps.specs.declared.turn.Turn.{Turn}
-use Rattle.ats_engine_steps.specs.declared.turn.Turn.TheVariants.{Resting, Selecting, Occupied}
+use Rattle.ats_engine_steps.specs.declared.turn.Turn.TheVariants.{Resting, Selecting}
 
 -- the phase of an event's moment, and its number
 abbrev pub phase_of : Event → ℕ
-phase_of (End row) = TRANSMISSION_END
 phase_of (Arrival row) = ARRIVAL
 phase_of (Eligibility row) = ELIGIBLE
 phase_of (Selection port) = SELECTION
 
 abbrev pub number_of : Event → ℕ
-number_of (End row) = row
 number_of (Arrival row) = row
 number_of (Eligibility row) = row
 number_of (Selection port) = port
@@ -40,15 +38,6 @@ same-of : (event : Event) (own moment : Moment) → IsOf event own → own ≡ m
 same-of event own moment is same = subst (IsOf event) same is
 
 -- those that a frame's stage or a port's turn gives have
-of-end : (row : ℕ) (stage : Stage) (moment : Moment) → end_by row stage ≡ Some moment → IsOf (End row) moment
-of-end row (Sending until) moment is =
-    same-of (End row) (end_moment row until) moment (record { phase = refl; number = refl }) (same_Some _ moment is)
-of-end row (Coming at) moment is = absurd (none-some moment is)
-of-end row (Due at) moment is = absurd (none-some moment is)
-of-end row Apart moment is = absurd (none-some moment is)
-of-end row Waiting moment is = absurd (none-some moment is)
-of-end row Over moment is = absurd (none-some moment is)
-
 of-arrival : (row : ℕ) (stage : Stage) (moment : Moment) → arrival_by row stage ≡ Some moment
     → IsOf (Arrival row) moment
 of-arrival row (Coming at) moment is =
@@ -57,7 +46,6 @@ of-arrival row (Coming at) moment is =
 of-arrival row (Due at) moment is = absurd (none-some moment is)
 of-arrival row Apart moment is = absurd (none-some moment is)
 of-arrival row Waiting moment is = absurd (none-some moment is)
-of-arrival row (Sending until) moment is = absurd (none-some moment is)
 of-arrival row Over moment is = absurd (none-some moment is)
 
 of-eligibility : (row : ℕ) (stage : Stage) (moment : Moment) → eligibility_by row stage ≡ Some moment
@@ -68,7 +56,6 @@ of-eligibility row (Due at) moment is =
 of-eligibility row (Coming at) moment is = absurd (none-some moment is)
 of-eligibility row Apart moment is = absurd (none-some moment is)
 of-eligibility row Waiting moment is = absurd (none-some moment is)
-of-eligibility row (Sending until) moment is = absurd (none-some moment is)
 of-eligibility row Over moment is = absurd (none-some moment is)
 
 of-selection : (port : ℕ) (turn : Turn) (moment : Moment) → selection_by port turn ≡ Some moment
@@ -77,38 +64,28 @@ of-selection port (Selecting at) moment is =
     same-of (Selection port) (selection_moment port at) moment (record { phase = refl; number = refl })
     (same_Some _ moment is)
 of-selection port Resting moment is = absurd (none-some moment is)
-of-selection port Occupied moment is = absurd (none-some moment is)
 
 -- so have all moments of events
 pub is-of : {T : Type 0} (course : Course T) (event : Event) (moment : Moment) → moment_of course event ≡ Some moment
     → IsOf event moment
-is-of course (End row) moment is = of-end row (stage_at course row) moment is
 is-of course (Arrival row) moment is = of-arrival row (stage_at course row) moment is
 is-of course (Eligibility row) moment is = of-eligibility row (stage_at course row) moment is
 is-of course (Selection port) moment is = of-selection port (turn_at course port) moment is
 
 -- so a phase and a number tell the event
 pub same-event : (a b : Event) → phase_of a ≡ phase_of b → number_of a ≡ number_of b → a ≡ b
-same-event (End f) (End g) p n = ap End n
-same-event (End f) (Arrival g) p n = absurd (omega arith)
-same-event (End f) (Eligibility g) p n = absurd (omega arith)
-same-event (End f) (Selection g) p n = absurd (omega arith)
-same-event (Arrival f) (End g) p n = absurd (omega arith)
 same-event (Arrival f) (Arrival g) p n = ap Arrival n
 same-event (Arrival f) (Eligibility g) p n = absurd (omega arith)
 same-event (Arrival f) (Selection g) p n = absurd (omega arith)
-same-event (Eligibility f) (End g) p n = absurd (omega arith)
 same-event (Eligibility f) (Arrival g) p n = absurd (omega arith)
 same-event (Eligibility f) (Eligibility g) p n = ap Eligibility n
 same-event (Eligibility f) (Selection g) p n = absurd (omega arith)
-same-event (Selection f) (End g) p n = absurd (omega arith)
 same-event (Selection f) (Arrival g) p n = absurd (omega arith)
 same-event (Selection f) (Eligibility g) p n = absurd (omega arith)
 same-event (Selection f) (Selection g) p n = ap Selection n
 
 -- the number of an event that is to happen is that of a frame or a port
 abbrev pub IsEventOf : {T : Type 0} → Course T → Event → Type 0
-IsEventOf course (End row) = row < length course.stages
 IsEventOf course (Arrival row) = row < length course.stages
 IsEventOf course (Eligibility row) = row < length course.stages
 IsEventOf course (Selection port) = port < length course.turns
@@ -124,7 +101,6 @@ below-length xs k default next moment none some = elim (cases_lt k (length xs)) 
 -- that of an event with a moment is
 pub is-within : {T : Type 0} (course : Course T) (event : Event) (moment : Moment)
     → moment_of course event ≡ Some moment → IsEventOf course event
-is-within course (End row) moment is = below-length course.stages row Over (end_by row) moment refl is
 is-within course (Arrival row) moment is = below-length course.stages row Over (arrival_by row) moment refl is
 is-within course (Eligibility row) moment is =
     below-length course.stages row Over (eligibility_by row) moment refl is
@@ -133,7 +109,6 @@ is-within course (Selection port) moment is =
 
 -- frames and ports numbered together: the frames first
 abbrev pub place_by : ℕ → Event → ℕ
-place_by rows (End row) = row
 place_by rows (Arrival row) = row
 place_by rows (Eligibility row) = row
 place_by rows (Selection port) = rows + port
@@ -141,7 +116,6 @@ place_by rows (Selection port) = rows + port
 -- there are as many places as frames and ports
 pub place-below : {T : Type 0} (course : Course T) (event : Event) → IsEventOf course event
     → place_by (length course.stages) event < length course.stages + length course.turns
-place-below course (End row) within = omega arith
 place-below course (Arrival row) within = omega arith
 place-below course (Eligibility row) within = omega arith
 place-below course (Selection port) within = omega arith
@@ -149,8 +123,7 @@ place-below course (Selection port) within = omega arith
 -- the event that a frame at a stage can have, and the one that is to happen at a place
 abbrev pub event_by : ℕ → Stage → Event
 event_by row (Coming at) = Arrival row
-event_by row (Due at) = Eligibility row
-event_by row stage = End row
+event_by row stage = Eligibility row
 
 abbrev pub event_at : {T : Type 0} → Course T → ℕ → Event
 event_at course place =
@@ -158,22 +131,12 @@ event_at course place =
     else Selection (place - length course.stages)
 
 -- an event of a frame that has a moment is that one
-end-only : (row : ℕ) (stage : Stage) (moment : Moment) → end_by row stage ≡ Some moment
-    → event_by row stage ≡ End row
-end-only row (Sending until) moment is = refl
-end-only row (Coming at) moment is = absurd (none-some moment is)
-end-only row (Due at) moment is = absurd (none-some moment is)
-end-only row Apart moment is = refl
-end-only row Waiting moment is = refl
-end-only row Over moment is = refl
-
 arrival-only : (row : ℕ) (stage : Stage) (moment : Moment) → arrival_by row stage ≡ Some moment
     → event_by row stage ≡ Arrival row
 arrival-only row (Coming at) moment is = refl
 arrival-only row (Due at) moment is = absurd (none-some moment is)
 arrival-only row Apart moment is = absurd (none-some moment is)
 arrival-only row Waiting moment is = absurd (none-some moment is)
-arrival-only row (Sending until) moment is = absurd (none-some moment is)
 arrival-only row Over moment is = absurd (none-some moment is)
 
 eligibility-only : (row : ℕ) (stage : Stage) (moment : Moment) → eligibility_by row stage ≡ Some moment
@@ -182,7 +145,6 @@ eligibility-only row (Due at) moment is = refl
 eligibility-only row (Coming at) moment is = absurd (none-some moment is)
 eligibility-only row Apart moment is = absurd (none-some moment is)
 eligibility-only row Waiting moment is = absurd (none-some moment is)
-eligibility-only row (Sending until) moment is = absurd (none-some moment is)
 eligibility-only row Over moment is = absurd (none-some moment is)
 
 -- so an event that has a moment is the one at its place
@@ -194,8 +156,6 @@ at-row course row within =
 
 pub at-place : {T : Type 0} (course : Course T) (event : Event) (moment : Moment) → moment_of course event ≡ Some moment
     → IsEventOf course event → event_at course (place_by (length course.stages) event) ≡ event
-at-place course (End row) moment is within =
-    at-row course row within ∙ end-only row (stage_at course row) moment is
 at-place course (Arrival row) moment is within =
     at-row course row within ∙ arrival-only row (stage_at course row) moment is
 at-place course (Eligibility row) moment is within =
@@ -209,13 +169,11 @@ at-place course (Selection port) moment is within =
 -- the number and the phase of an event are small
 pub number-below : {T : Type 0} (course : Course T) (event : Event) → IsEventOf course event
     → number_of event < length course.stages + length course.turns
-number-below course (End row) within = omega arith
 number-below course (Arrival row) within = omega arith
 number-below course (Eligibility row) within = omega arith
 number-below course (Selection port) within = omega arith
 
 pub phase-below : (event : Event) → phase_of event < 4
-phase-below (End row) = omega arith
 phase-below (Arrival row) = omega arith
 phase-below (Eligibility row) = omega arith
 phase-below (Selection port) = omega arith

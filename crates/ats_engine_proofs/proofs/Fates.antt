@@ -10,15 +10,15 @@ use Rattle.ats_num.specs.declared.time.Ps.{Ps}
 use Rattle.std.proofs.lemmas.Option.{IfSome_then}
 use Rattle.ats_events.specs.declared.moment.Moment.{Moment}
 use Rattle.ats_engine_steps.specs.Course.{Course, stage_at, turn_at}
-use Rattle.ats_engine_steps.specs.Entries.{arrival_moment, eligible_moment, end_moment, selection_moment, arrival_by}
-use Rattle.ats_engine_steps.specs.Entries.{eligibility_by, end_by, selection_by, moment_of}
+use Rattle.ats_engine_steps.specs.Entries.{arrival_moment, eligible_moment, selection_moment, arrival_by}
+use Rattle.ats_engine_steps.specs.Entries.{eligibility_by, selection_by, moment_of}
 use Rattle.ats_engine_steps.specs.Steps.{due_entries, selections}
 use Rattle.ats_engine_steps.specs.declared.event.Event.{Event}
-use Rattle.ats_engine_steps.specs.declared.event.Event.TheVariants.{End, Arrival, Eligibility, Selection}
+use Rattle.ats_engine_steps.specs.declared.event.Event.TheVariants.{Arrival, Eligibility, Selection}
 use Rattle.ats_engine_steps.specs.declared.stage.Stage.{Stage}
-use Rattle.ats_engine_steps.specs.declared.stage.Stage.TheVariants.{Apart, Coming, Due, Waiting, Sending, Over}
+use Rattle.ats_engine_steps.specs.declared.stage.Stage.TheVariants.{Apart, Coming, Due, Waiting, Over}
 use Rattle.ats_engine_steps.specs.declared.turn.Turn.{Turn}
-use Rattle.ats_engine_steps.specs.declared.turn.Turn.TheVariants.{Resting, Selecting, Occupied}
+use Rattle.ats_engine_steps.specs.declared.turn.Turn.TheVariants.{Resting, Selecting}
 use Rattle.ats_engine_proofs.proofs.Awaited.{all_pairs_append, IsFree, IsAmong, Fate, stays, changes, Brings}
 use Rattle.ats_engine_proofs.proofs.Events.{number_of}
 use Rattle.ats_engine_proofs.proofs.ListFacts.{contains-map}
@@ -30,24 +30,20 @@ entries_by row (Coming at) = (arrival_moment row at, Arrival row) ∷ []
 entries_by row (Due at) = (eligible_moment row at, Eligibility row) ∷ []
 entries_by row Apart = []
 entries_by row Waiting = []
-entries_by row (Sending until) = (end_moment row until, End row) ∷ []
 entries_by row Over = []
 
 -- what holds of a frame's events holds of the one that it has an entry of
-of_row : (Q : Event → Type 0) (row : ℕ) (s : Stage) → Q (End row) → Q (Arrival row) → Q (Eligibility row)
+of_row : (Q : Event → Type 0) (row : ℕ) (s : Stage) → Q (Arrival row) → Q (Eligibility row)
     → All (λ (x : Moment × Event). Q x.1) (entries_by row s)
-of_row Q row (Coming at) e a l =
+of_row Q row (Coming at) a l =
     All-cons (λ (x : Moment × Event). Q x.1) (arrival_moment row at, Arrival row) [] a
     (All-nil (λ (x : Moment × Event). Q x.1))
-of_row Q row (Due at) e a l =
+of_row Q row (Due at) a l =
     All-cons (λ (x : Moment × Event). Q x.1) (eligible_moment row at, Eligibility row) [] l
     (All-nil (λ (x : Moment × Event). Q x.1))
-of_row Q row Apart e a l = All-nil (λ (x : Moment × Event). Q x.1)
-of_row Q row Waiting e a l = All-nil (λ (x : Moment × Event). Q x.1)
-of_row Q row (Sending until) e a l =
-    All-cons (λ (x : Moment × Event). Q x.1) (end_moment row until, End row) [] e
-    (All-nil (λ (x : Moment × Event). Q x.1))
-of_row Q row Over e a l = All-nil (λ (x : Moment × Event). Q x.1)
+of_row Q row Apart a l = All-nil (λ (x : Moment × Event). Q x.1)
+of_row Q row Waiting a l = All-nil (λ (x : Moment × Event). Q x.1)
+of_row Q row Over a l = All-nil (λ (x : Moment × Event). Q x.1)
 
 -- and likewise of a port's
 of_port : (Q : Event → Type 0) (port : ℕ) (t : Turn) → Q (Selection port)
@@ -56,24 +52,20 @@ of_port Q port Resting s = All-nil (λ (x : Moment × Event). Q x.1)
 of_port Q port (Selecting at) s =
     All-cons (λ (x : Moment × Event). Q x.1) (selection_moment port at, Selection port) [] s
     (All-nil (λ (x : Moment × Event). Q x.1))
-of_port Q port Occupied s = All-nil (λ (x : Moment × Event). Q x.1)
 
 -- each such entry is at the event's moment
-each_of_row : (moments : Event → Option Moment) (row : ℕ) (s : Stage) → moments (End row) ≡ end_by row s
+each_of_row : (moments : Event → Option Moment) (row : ℕ) (s : Stage)
     → moments (Arrival row) ≡ arrival_by row s → moments (Eligibility row) ≡ eligibility_by row s
     → All (λ (x : Moment × Event). moments x.1 ≡ Some x.0) (entries_by row s)
-each_of_row moments row (Coming at) e a l =
+each_of_row moments row (Coming at) a l =
     All-cons (λ (x : Moment × Event). moments x.1 ≡ Some x.0) (arrival_moment row at, Arrival row) [] a
     (All-nil (λ (x : Moment × Event). moments x.1 ≡ Some x.0))
-each_of_row moments row (Due at) e a l =
+each_of_row moments row (Due at) a l =
     All-cons (λ (x : Moment × Event). moments x.1 ≡ Some x.0) (eligible_moment row at, Eligibility row) [] l
     (All-nil (λ (x : Moment × Event). moments x.1 ≡ Some x.0))
-each_of_row moments row Apart e a l = All-nil (λ (x : Moment × Event). moments x.1 ≡ Some x.0)
-each_of_row moments row Waiting e a l = All-nil (λ (x : Moment × Event). moments x.1 ≡ Some x.0)
-each_of_row moments row (Sending until) e a l =
-    All-cons (λ (x : Moment × Event). moments x.1 ≡ Some x.0) (end_moment row until, End row) [] e
-    (All-nil (λ (x : Moment × Event). moments x.1 ≡ Some x.0))
-each_of_row moments row Over e a l = All-nil (λ (x : Moment × Event). moments x.1 ≡ Some x.0)
+each_of_row moments row Apart a l = All-nil (λ (x : Moment × Event). moments x.1 ≡ Some x.0)
+each_of_row moments row Waiting a l = All-nil (λ (x : Moment × Event). moments x.1 ≡ Some x.0)
+each_of_row moments row Over a l = All-nil (λ (x : Moment × Event). moments x.1 ≡ Some x.0)
 
 -- and so is that of a port
 each_of_port : (moments : Event → Option Moment) (port : ℕ) (t : Turn)
@@ -83,7 +75,6 @@ each_of_port moments port Resting s = All-nil (λ (x : Moment × Event). moments
 each_of_port moments port (Selecting at) s =
     All-cons (λ (x : Moment × Event). moments x.1 ≡ Some x.0) (selection_moment port at, Selection port) [] s
     (All-nil (λ (x : Moment × Event). moments x.1 ≡ Some x.0))
-each_of_port moments port Occupied s = All-nil (λ (x : Moment × Event). moments x.1 ≡ Some x.0)
 
 -- there is one at the most
 few_of_row : (row : ℕ) (s : Stage) → length (entries_by row s) ≤ 1
@@ -91,29 +82,18 @@ few_of_row row (Coming at) = omega arith
 few_of_row row (Due at) = omega arith
 few_of_row row Apart = omega arith
 few_of_row row Waiting = omega arith
-few_of_row row (Sending until) = omega arith
 few_of_row row Over = omega arith
 
 few_of_port : (port : ℕ) (t : Turn) → length (selections port t) ≤ 1
 few_of_port port Resting = omega arith
 few_of_port port (Selecting at) = omega arith
-few_of_port port Occupied = omega arith
 
 -- and where the event has a moment, there is one
-end_among : (row : ℕ) (s : Stage) → IsAmong (entries_by row s) (End row) (end_by row s)
-end_among row (Coming at) = tt
-end_among row (Due at) = tt
-end_among row Apart = tt
-end_among row Waiting = tt
-end_among row (Sending until) = (0, omega arith, refl)
-end_among row Over = tt
-
 arrival_among : (row : ℕ) (s : Stage) → IsAmong (entries_by row s) (Arrival row) (arrival_by row s)
 arrival_among row (Coming at) = (0, omega arith, refl)
 arrival_among row (Due at) = tt
 arrival_among row Apart = tt
 arrival_among row Waiting = tt
-arrival_among row (Sending until) = tt
 arrival_among row Over = tt
 
 eligibility_among : (row : ℕ) (s : Stage)
@@ -122,17 +102,14 @@ eligibility_among row (Coming at) = tt
 eligibility_among row (Due at) = (0, omega arith, refl)
 eligibility_among row Apart = tt
 eligibility_among row Waiting = tt
-eligibility_among row (Sending until) = tt
 eligibility_among row Over = tt
 
 selection_among : (port : ℕ) (t : Turn) → IsAmong (selections port t) (Selection port) (selection_by port t)
 selection_among port Resting = tt
 selection_among port (Selecting at) = (0, omega arith, refl)
-selection_among port Occupied = tt
 
 -- the event that has happened is none of another frame or another port
 pub record IsHere (row port : ℕ) (happened : Event) : Type 0 where
-  pub ends : (f : ℕ) → f ≢ row → End f ≢ happened
   pub arrivals : (f : ℕ) → f ≢ row → Arrival f ≢ happened
   pub eligibilities : (f : ℕ) → f ≢ row → Eligibility f ≢ happened
   pub selections : (p : ℕ) → p ≢ port → Selection p ≢ happened
@@ -145,7 +122,6 @@ pub record Steps {T : Type 0} (old new : Course T) (happened : Event) (row port 
   pub turns : (p : ℕ) → p ≢ port → turn_at new p ≡ turn_at old p
   pub was : stage_at old row ≡ s
   pub becomes : stage_at new row ≡ t
-  pub end : (m : Moment) → end_by row s ≡ Some m → End row ≡ happened
   pub arrival : (m : Moment) → arrival_by row s ≡ Some m → Arrival row ≡ happened
   pub eligibility : (m : Moment) → eligibility_by row s ≡ Some m → Eligibility row ≡ happened
 
@@ -158,32 +134,25 @@ pub record Turns {T : Type 0} (old new : Course T) (happened : Event) (port : �
 -- the fate of each event, by those of the frame and the port
 all_fates : {T : Type 0} (old new : Course T) (happened : Event) (more : List (Moment × Event)) (row port : ℕ)
     (s t : Stage) → Steps old new happened row port s t
-    → IsAmong more (End row) (end_by row t) → IsAmong more (Arrival row) (arrival_by row t)
+    → IsAmong more (Arrival row) (arrival_by row t)
     → IsAmong more (Eligibility row) (eligibility_by row t)
     → Fate (moment_of old) (moment_of new) happened more (Selection port)
     → (event : Event) → Fate (moment_of old) (moment_of new) happened more event
-all_fates {T} old new happened more row port s t step e a l p (End f) =
-    elim (cases_eq f row) as (λ _. Fate (moment_of old) (moment_of new) happened more (End f)) [
-      | inl same ↦ subst (λ (g : ℕ). Fate (moment_of old) (moment_of new) happened more (End g)) (sym same)
-          (changes (λ m is. step.end m (ap (end_by row) (sym step.was) ∙ is))
-          (subst (λ (x : Stage). IsAmong more (End row) (end_by row x)) (sym step.becomes) e))
-      | inr other ↦ stays (step.here.ends f other) (ap (end_by f) (step.stages f other))
-    ]
-all_fates {T} old new happened more row port s t step e a l p (Arrival f) =
+all_fates {T} old new happened more row port s t step a l p (Arrival f) =
     elim (cases_eq f row) as (λ _. Fate (moment_of old) (moment_of new) happened more (Arrival f)) [
       | inl same ↦ subst (λ (g : ℕ). Fate (moment_of old) (moment_of new) happened more (Arrival g)) (sym same)
           (changes (λ m is. step.arrival m (ap (arrival_by row) (sym step.was) ∙ is))
           (subst (λ (x : Stage). IsAmong more (Arrival row) (arrival_by row x)) (sym step.becomes) a))
       | inr other ↦ stays (step.here.arrivals f other) (ap (arrival_by f) (step.stages f other))
     ]
-all_fates {T} old new happened more row port s t step e a l p (Eligibility f) =
+all_fates {T} old new happened more row port s t step a l p (Eligibility f) =
     elim (cases_eq f row) as (λ _. Fate (moment_of old) (moment_of new) happened more (Eligibility f)) [
       | inl same ↦ subst (λ (g : ℕ). Fate (moment_of old) (moment_of new) happened more (Eligibility g)) (sym same)
           (changes (λ m is. step.eligibility m (ap (eligibility_by row) (sym step.was) ∙ is))
           (subst (λ (x : Stage). IsAmong more (Eligibility row) (eligibility_by row x)) (sym step.becomes) l))
       | inr other ↦ stays (step.here.eligibilities f other) (ap (eligibility_by f) (step.stages f other))
     ]
-all_fates {T} old new happened more row port s t step e a l p (Selection q) =
+all_fates {T} old new happened more row port s t step a l p (Selection q) =
     elim (cases_eq q port) as (λ _. Fate (moment_of old) (moment_of new) happened more (Selection q)) [
       | inl same ↦ subst (λ (r : ℕ). Fate (moment_of old) (moment_of new) happened more (Selection r)) (sym same) p
       | inr other ↦ stays (step.here.selections q other) (ap (selection_by q) (step.turns q other))
@@ -200,14 +169,13 @@ pub brings_one : {T : Type 0} (old new : Course T) (happened : Event) (row port 
 brings_one {T} old new happened row port s t step other same =
     let more : List (Moment × Event) = entries_by row t in
     record {
-      each = each_of_row (moment_of new) row t (ap (end_by row) step.becomes)
-          (ap (arrival_by row) step.becomes) (ap (eligibility_by row) step.becomes);
+      each = each_of_row (moment_of new) row t (ap (arrival_by row) step.becomes)
+          (ap (eligibility_by row) step.becomes);
       free = of_row (IsFree (moment_of old) happened) row t
-          (λ m is. step.end m (ap (end_by row) (sym step.was) ∙ is))
           (λ m is. step.arrival m (ap (arrival_by row) (sym step.was) ∙ is))
           (λ m is. step.eligibility m (ap (eligibility_by row) (sym step.was) ∙ is));
       apart = one_apart (λ (x y : Moment × Event). x.1 ≢ y.1) more (few_of_row row t);
-      fates = all_fates old new happened more row port s t step (end_among row t) (arrival_among row t)
+      fates = all_fates old new happened more row port s t step (arrival_among row t)
           (eligibility_among row t) (stays other (ap (selection_by port) same));
     }
 
@@ -234,23 +202,20 @@ brings_both {T} old new happened row port s t u v step turn =
     let Free : Event → Type 0 = IsFree (moment_of old) happened in
     record {
       each = All-append (λ (x : Moment × Event). moment_of new x.1 ≡ Some x.0) own its
-          (each_of_row (moment_of new) row t (ap (end_by row) step.becomes)
-          (ap (arrival_by row) step.becomes) (ap (eligibility_by row) step.becomes))
+          (each_of_row (moment_of new) row t (ap (arrival_by row) step.becomes)
+          (ap (eligibility_by row) step.becomes))
           (each_of_port (moment_of new) port v (ap (selection_by port) turn.becomes));
       free = All-append (λ (x : Moment × Event). Free x.1) own its
           (of_row Free row t
-          (λ m is. step.end m (ap (end_by row) (sym step.was) ∙ is))
           (λ m is. step.arrival m (ap (arrival_by row) (sym step.was) ∙ is))
           (λ m is. step.eligibility m (ap (eligibility_by row) (sym step.was) ∙ is)))
           (of_port Free port v (λ m is. turn.selection m (ap (selection_by port) (sym turn.was) ∙ is)));
       apart = all_pairs_append Apart own its (one_apart Apart own (few_of_row row t))
           (one_apart Apart its (few_of_port port v))
           (of_row (λ (e : Event). All (λ (y : Moment × Event). e ≢ y.1) its) row t
-          (of_port (λ (f : Event). End row ≢ f) port v (λ same. cc))
           (of_port (λ (f : Event). Arrival row ≢ f) port v (λ same. cc))
           (of_port (λ (f : Event). Eligibility row ≢ f) port v (λ same. cc)));
       fates = all_fates old new happened more row port s t step
-          (left_among own its (End row) (end_by row t) (end_among row t))
           (left_among own its (Arrival row) (arrival_by row t) (arrival_among row t))
           (left_among own its (Eligibility row) (eligibility_by row t) (eligibility_among row t))
           (changes (λ m is. turn.selection m (ap (selection_by port) (sym turn.was) ∙ is))
@@ -260,7 +225,6 @@ brings_both {T} old new happened row port s t u v step turn =
 
 -- the event that a frame along a row's leg is to have next is none but the one that has happened
 pub record IsFreeRow (moments : Event → Option Moment) (happened : Event) (row : ℕ) : Type 0 where
-  pub end : IsFree moments happened (End row)
   pub arrival : IsFree moments happened (Arrival row)
   pub eligibility : IsFree moments happened (Eligibility row)
 
@@ -314,10 +278,6 @@ due-among : (due : Option Ps) (rows : List ℕ) (n : ℕ) → Contains rows n
 due-among (Some e) rows n has = contains-map (entry_of e) rows n has
 due-among None rows n has = tt
 
-no-end : (due : Option Ps) (more : List (Moment × Event)) (n : ℕ) → IsAmong more (End n) (end_by n (stage_due due))
-no-end (Some e) more n = tt
-no-end None more n = tt
-
 no-arrival : (due : Option Ps) (more : List (Moment × Event)) (n : ℕ)
     → IsAmong more (Arrival n) (arrival_by n (stage_due due))
 no-arrival (Some e) more n = tt
@@ -327,16 +287,6 @@ no-arrival None more n = tt
 enter_fates : {T : Type 0} {old new : Course T} {row : ℕ} {rows : List ℕ} {due : Option Ps}
     → Enters old new row rows due → (event : Event)
     → Fate (moment_of old) (moment_of new) (Arrival row) (due_entries due rows) event
-enter_fates {T} {old} {new} {row} {rows} {due} step (End n) =
-    let Free : ℕ → Type 0 = IsFreeRow (moment_of old) (Arrival row) in
-    let Is : ℕ → Type 0 = λ (m : ℕ). stage_at new m ≡ stage_due due in
-    elim (in-or-off rows n)
-    as (λ _. Fate (moment_of old) (moment_of new) (Arrival row) (due_entries due rows) (End n)) [
-      | inl has ↦ changes (of-element Free rows n step.free has).end
-          (subst (λ (s : Stage). IsAmong (due_entries due rows) (End n) (end_by n s))
-          (sym (of-element Is rows n step.becomes has)) (no-end due (due_entries due rows) n))
-      | inr off ↦ stays (λ same. cc) (ap (end_by n) (step.stages n off))
-    ]
 enter_fates {T} {old} {new} {row} {rows} {due} step (Arrival n) =
     let Free : ℕ → Type 0 = IsFreeRow (moment_of old) (Arrival row) in
     let Is : ℕ → Type 0 = λ (m : ℕ). stage_at new m ≡ stage_due due in

@@ -10,7 +10,7 @@ use Rattle.ats_trace.specs.declared.journey.Release.{Release}
 use Rattle.ats_engine_steps.specs.Course.{Course, stage_at, turn_at}
 use Rattle.ats_engine_steps.specs.Entries.{AreAwaited, IsReached, moment_of}
 use Rattle.ats_engine_steps.specs.declared.event.Event.{Event}
-use Rattle.ats_engine_steps.specs.declared.event.Event.TheVariants.{End, Arrival, Eligibility, Selection}
+use Rattle.ats_engine_steps.specs.declared.event.Event.TheVariants.{Arrival, Eligibility, Selection}
 use Rattle.ats_engine_steps.specs.declared.stage.Stage.{Stage}
 use Rattle.ats_engine_steps.specs.declared.stage.Stage.TheVariants.{Over}
 use Rattle.ats_engine_steps.specs.declared.turn.Turn.{Turn}
@@ -48,7 +48,6 @@ next-of {T} {key} {wait} {network} {releases} {course} {now} {event} next =
 -- no event of a frame or a port is one of another
 pub arrival-here : (row port : ℕ) → IsHere row port (Arrival row)
 arrival-here row port = record {
-  ends = λ f n same. cc;
   arrivals = λ f n same. n cc;
   eligibilities = λ f n same. cc;
   selections = λ p n same. cc;
@@ -56,7 +55,6 @@ arrival-here row port = record {
 
 pub eligibility-here : (row port : ℕ) → IsHere row port (Eligibility row)
 eligibility-here row port = record {
-  ends = λ f n same. cc;
   arrivals = λ f n same. cc;
   eligibilities = λ f n same. n cc;
   selections = λ p n same. cc;
@@ -64,18 +62,9 @@ eligibility-here row port = record {
 
 pub selection-here : (row port : ℕ) → IsHere row port (Selection port)
 selection-here row port = record {
-  ends = λ f n same. cc;
   arrivals = λ f n same. cc;
   eligibilities = λ f n same. cc;
   selections = λ p n same. n cc;
-}
-
-pub end-here : (row port : ℕ) → IsHere row port (End row)
-end-here row port = record {
-  ends = λ f n same. n cc;
-  arrivals = λ f n same. cc;
-  eligibilities = λ f n same. cc;
-  selections = λ p n same. cc;
 }
 
 -- the stages once that of one frame is set, and likewise the turns

@@ -20,20 +20,21 @@ use Rattle.ats_run_records.specs.Progress.{Progress, progress_at, no_progress, w
 use Rattle.ats_run_records.specs.Progress.{no_hop}
 use Rattle.ats_engine_steps.specs.Course.{Course, stage_at, path_of}
 use Rattle.ats_engine_steps.specs.Entries.{arrival_moment}
-use Rattle.ats_engine_steps.specs.Frames.{IsAtStage, IsDueAt, IsUnsent, IsFrame, Goes, HasBegun, start_of}
+use Rattle.ats_engine_steps.specs.Frames.{IsAtStage, IsDueAt, IsSent, IsUnsent, IsFrame, Goes, HasBegun, Stands}
+use Rattle.ats_engine_steps.specs.Frames.{start_of}
 use Rattle.ats_engine_steps.specs.Invariant.{IsShaped, opened_again}
 use Rattle.ats_engine_steps.specs.Steps.{Move, came, stage_by, judged_by, class_behind, leaves_for, Comes}
-use Rattle.ats_engine_steps.specs.Steps.{BecomesEligible, Selects, Ends, rows_next, set_each}
+use Rattle.ats_engine_steps.specs.Steps.{BecomesEligible, Selects, rows_next, set_each}
 use Rattle.ats_engine_steps.specs.declared.event.Event.{Event}
-use Rattle.ats_engine_steps.specs.declared.event.Event.TheVariants.{End, Arrival, Eligibility, Selection}
+use Rattle.ats_engine_steps.specs.declared.event.Event.TheVariants.{Arrival, Eligibility, Selection}
 use Rattle.ats_engine_steps.specs.declared.stage.Stage.{Stage}
-use Rattle.ats_engine_steps.specs.declared.stage.Stage.TheVariants.{Apart, Coming, Due, Waiting, Sending, Over}
+use Rattle.ats_engine_steps.specs.declared.stage.Stage.TheVariants.{Apart, Coming, Due, Waiting, Over}
 use Rattle.ats_engine_proofs.specs.Next.{IsNext}
 use Rattle.ats_engine_proofs.proofs.Begun.{IsApart, begun-apart}
 use Rattle.ats_engine_proofs.proofs.Travels.{selects-stage}
 use Rattle.ats_engine_proofs.proofs.LegPorts.{leg-some}
 use Rattle.ats_engine_proofs.proofs.Rows.{BeginsThere, begins-later, in-or-off, length-set_each, next-are, next-begun}
-use Rattle.ats_engine_proofs.proofs.Stages.{next-coming, next-due, next-sending, stage-within}
+use Rattle.ats_engine_proofs.proofs.Stages.{next-coming, next-due, stage-within}
 use Rattle.ats_engine_proofs.proofs.Starts.{AreLikeHops, comes-enter, comes-keep, likes-same, likes-set, start-comes}
 use Rattle.ats_engine_proofs.proofs.Starts.{start-likes, start-stays, start-told}
 use Rattle.ats_engine_proofs.proofs.Ways.{AreLike, begins-like, begun-comes, begun-like, begun-more, begun-sent}
@@ -56,10 +57,6 @@ stage-like path start other p (Due time) like at = record {
   unended = at.unended;
 }
 stage-like path start other p Waiting like at = record {
-  here = (at.here.0, begun-like p.leg p.release start other p.hops like at.here.1);
-  unended = at.unended;
-}
-stage-like path start other p (Sending until) like at = record {
   here = (at.here.0, begun-like p.leg p.release start other p.hops like at.here.1);
   unended = at.unended;
 }
@@ -181,10 +178,6 @@ coming-not_over at same = cc
 -- nor is one along which it is due
 due-not_over : (at : Ps) → Due at ≢ Over
 due-not_over at same = cc
-
--- or is sent
-sending-not_over : (at : Ps) → Sending at ≢ Over
-sending-not_over at same = cc
 
 -- or waits
 waiting-not_over : Waiting ≢ Over
@@ -432,73 +425,11 @@ offered-frames {T} {key} {wait} {network} {releases} {old} {new} {now} {row} nex
 selects-here : {T : Type 0} {key : T → ℕ → ℕ → ℕ} {wait : ℕ → ℕ → ℕ} {network : DeclaredNetwork}
     {releases : List Release} {old new : Course T} {now : Moment} {port : ℕ} {entries more : List (Moment × Event)}
     → IsNext key wait network releases old now (Selection port) entries
-    → (step : Selects key network old new now port more) → step.row < length old.records
+    → (step : Selects key wait network old new now port more) → step.row < length old.records
 selects-here {T} {key} {wait} {network} {releases} {old} {new} {now} {port} next step =
     stage-within old step.row Waiting next.holds.shape.stages (selects-stage next step) waiting-not_over
 
--- a selection moves the leg of the frame that it starts
-selects-moved : {T : Type 0} {key : T → ℕ → ℕ → ℕ} {wait : ℕ → ℕ → ℕ} {network : DeclaredNetwork}
-    {releases : List Release} {old new : Course T} {now : Moment} {port : ℕ} {entries more : List (Moment × Event)}
-    → IsNext key wait network releases old now (Selection port) entries
-    → (step : Selects key network old new now port more)
-    → IsMoved old new step.row (Sending step.end) (with_sent (progress_at old.records step.row) now.at step.end)
-selects-moved {T} {key} {wait} {network} {releases} {old} {new} {now} {port} next step =
-    let p : Progress = progress_at old.records step.row in
-    record {
-      within = selects-here next step;
-      stages = ap (λ (c : Course T). c.stages) step.becomes;
-      records = ap (λ (c : Course T). c.records) step.becomes;
-      firsts = ap (λ (c : Course T). c.firsts) step.becomes;
-      again = refl;
-      likes = likes-set p.hops (length p.hops - 1) no_hop (Some (now.at, step.end));
-      ports = ap (λ (c : Course T). length c.ports) step.becomes ∙ simp length-set;
-      turns = ap (λ (c : Course T). length c.turns) step.becomes ∙ simp length-set;
-      arrives_from = ap (λ (c : Course T). length c.arrives_from) step.becomes;
-    }
-
--- after a selection the lists fit as before
-pub selects-shape : {T : Type 0} {key : T → ℕ → ℕ → ℕ} {wait : ℕ → ℕ → ℕ} {network : DeclaredNetwork}
-    {releases : List Release} {old new : Course T} {now : Moment} {port : ℕ} {entries more : List (Moment × Event)}
-    → IsNext key wait network releases old now (Selection port) entries → Selects key network old new now port more
-    → IsShaped network releases new
-selects-shape {T} {key} {wait} {network} {releases} {old} {new} {now} {port} next step =
-    moved-shape network releases old new step.row (Sending step.end)
-    (with_sent (progress_at old.records step.row) now.at step.end) next.holds.shape (selects-moved next step)
-
--- a frame that waited is sent
-waiting-sends : {T : Type 0} (network : DeclaredNetwork) (course : Course T) (progress : Progress) (start end : Ps)
-    → IsFrame network course progress Waiting → IsFrame network course (with_sent progress start end) (Sending end)
-waiting-sends network course progress start end is = record {
-  sender = is.sender;
-  octets = is.octets;
-  leg = is.leg;
-  room = is.room;
-  stands = record {
-    here = (
-      stands-sent (path_of network progress) progress.hops start end is.stands.here.0,
-      subst (λ (s : Option HopRecord). HasBegun progress.leg progress.release s (with_sent progress start end).hops)
-          (sym (start-told network course progress (with_sent progress start end).hops progress.ending))
-          (begun-sent progress.leg progress.release (start_of network course progress) progress.hops
-          (length progress.hops - 1) start end is.stands.here.1),
-    );
-    unended = is.stands.unended;
-  };
-}
-
--- and each row is as far as its stage says
-pub selects-frames : {T : Type 0} {key : T → ℕ → ℕ → ℕ} {wait : ℕ → ℕ → ℕ} {network : DeclaredNetwork}
-    {releases : List Release} {old new : Course T} {now : Moment} {port : ℕ} {entries more : List (Moment × Event)}
-    → IsNext key wait network releases old now (Selection port) entries → Selects key network old new now port more
-    → (n : ℕ) → n < length new.records
-    → IsFrame network new (progress_at new.records n) (stage_at new n)
-selects-frames {T} {key} {wait} {network} {releases} {old} {new} {now} {port} next step =
-    let p : Progress = progress_at old.records step.row in
-    moved-frames network old new step.row (Sending step.end) (with_sent p now.at step.end)
-    next.holds.shape.stages (selects-moved next step) next.holds.frames
-    (waiting-sends network old p now.at step.end
-    (known-frame old step.row Waiting next.holds.frames (selects-stage next step) (selects-here next step)))
-
--- a frame that was sent goes to its listener
+-- a frame that is sent goes to its listener
 abbrev sunk : Progress → Ps → Move
 sunk progress at = record { stage = Over; progress = with_ending progress (Sink at); entries = [] }
 
@@ -527,23 +458,63 @@ leaves-by P network row progress at last more =
           (more other)
     ]
 
--- it is then as far as its stage says
-leave-stands : {T : Type 0} (network : DeclaredNetwork) (course : Course T) (row : ℕ) (progress : Progress)
-    (until at : Ps) → IsFrame network course progress (Sending until)
-    → IsFrame network course (leaves_for network row progress at).progress
-    (leaves_for network row progress at).stage
-leave-stands network course row progress until at is =
+-- a selection moves the leg of the frame that it starts
+selects-moved : {T : Type 0} {key : T → ℕ → ℕ → ℕ} {wait : ℕ → ℕ → ℕ} {network : DeclaredNetwork}
+    {releases : List Release} {old new : Course T} {now : Moment} {port : ℕ} {entries more : List (Moment × Event)}
+    → IsNext key wait network releases old now (Selection port) entries
+    → (step : Selects key wait network old new now port more)
+    → IsMoved old new step.row step.move.stage step.move.progress
+selects-moved {T} {key} {wait} {network} {releases} {old} {new} {now} {port} next step =
+    let p : Progress = progress_at old.records step.row in
+    let q : Progress = with_sent p now.at step.end in
+    let Likes : Move → Type 0 = λ (m : Move). AreLikeHops p.hops m.progress.hops in
+    let like : AreLikeHops p.hops q.hops = likes-set p.hops (length p.hops - 1) no_hop (Some (now.at, step.end)) in
+    record {
+      within = selects-here next step;
+      stages = ap (λ (c : Course T). c.stages) step.becomes;
+      records = ap (λ (c : Course T). c.records) step.becomes;
+      firsts = ap (λ (c : Course T). c.firsts) step.becomes;
+      again = ap (λ (m : Move). opened_again m.progress) step.is
+          ∙ leaves-by (λ (m : Move). opened_again m.progress ≡ opened_again p) network step.row q step.arrival
+          (λ _. refl) (λ _. refl);
+      likes = subst Likes (sym step.is) (leaves-by Likes network step.row q step.arrival (λ _. like) (λ _. like));
+      ports = ap (λ (c : Course T). length c.ports) step.becomes ∙ simp length-set;
+      turns = ap (λ (c : Course T). length c.turns) step.becomes ∙ simp length-set;
+      arrives_from = ap (λ (c : Course T). length c.arrives_from) step.becomes ∙ simp length-set;
+    }
+
+-- after a selection the lists fit as before
+pub selects-shape : {T : Type 0} {key : T → ℕ → ℕ → ℕ} {wait : ℕ → ℕ → ℕ} {network : DeclaredNetwork}
+    {releases : List Release} {old new : Course T} {now : Moment} {port : ℕ} {entries more : List (Moment × Event)}
+    → IsNext key wait network releases old now (Selection port) entries → Selects key wait network old new now port more
+    → IsShaped network releases new
+selects-shape {T} {key} {wait} {network} {releases} {old} {new} {now} {port} next step =
+    moved-shape network releases old new step.row step.move.stage step.move.progress next.holds.shape
+    (selects-moved next step)
+
+-- a frame that waited and is sent is then as far as its stage says
+waiting-leaves : {T : Type 0} (network : DeclaredNetwork) (course : Course T) (row : ℕ) (progress : Progress)
+    (start end at : Ps) → IsFrame network course progress Waiting
+    → IsFrame network course (leaves_for network row (with_sent progress start end) at).progress
+    (leaves_for network row (with_sent progress start end) at).stage
+waiting-leaves network course row progress start end at is =
     let path : List ℕ = path_of network progress in
-    leaves-by (λ (m : Move). IsFrame network course m.progress m.stage) network row progress at
+    let q : Progress = with_sent progress start end in
+    let stands : Stands IsSent path q.hops = stands-sent path progress.hops start end is.stands.here.0 in
+    let Begun : Option HopRecord → Type 0 = λ (s : Option HopRecord).
+    HasBegun progress.leg progress.release s q.hops in
+    let begun : Begun (start_of network course progress) =
+    begun-sent progress.leg progress.release (start_of network course progress) progress.hops
+    (length progress.hops - 1) start end is.stands.here.1 in
+    leaves-by (λ (m : Move). IsFrame network course m.progress m.stage) network row q at
     (λ same. record {
       sender = is.sender;
       octets = is.octets;
       leg = is.leg;
       room = is.room;
       stands = record {
-        way = sent-way path progress.hops until at is.stands.here.0 same;
-        begun = subst (λ (s : Option HopRecord). HasBegun progress.leg progress.release s progress.hops)
-            (sym (start-told network course progress progress.hops (Sink at))) is.stands.here.1;
+        way = sent-way path q.hops at stands same;
+        begun = subst Begun (sym (start-told network course progress q.hops (Sink at))) begun;
       };
     })
     (λ other. record {
@@ -553,59 +524,24 @@ leave-stands network course row progress until at is =
       room = is.room;
       stands = record {
         here = (
-          sent-goes path progress.hops until is.stands.here.0 other,
-          begun-comes progress.leg progress.release (start_of network course progress) progress.hops at
-              is.stands.here.1,
+          sent-goes path q.hops stands other,
+          begun-comes progress.leg progress.release (start_of network course q) q.hops at
+              (subst Begun (sym (start-told network course progress q.hops progress.ending)) begun),
         );
         unended = is.stands.unended;
       };
     })
 
--- the end of a transmission moves its leg
-ends-moved : {T : Type 0} {key : T → ℕ → ℕ → ℕ} {wait : ℕ → ℕ → ℕ} {network : DeclaredNetwork}
-    {releases : List Release} {old new : Course T} {now : Moment} {row : ℕ} {entries more : List (Moment × Event)}
-    → IsNext key wait network releases old now (End row) entries
-    → (step : Ends key wait network old new now row more)
-    → IsMoved old new row step.move.stage step.move.progress
-ends-moved {T} {key} {wait} {network} {releases} {old} {new} {now} {row} next step =
-    let p : Progress = progress_at old.records row in
-    let Likes : Move → Type 0 = λ (m : Move). AreLikeHops p.hops m.progress.hops in
-    record {
-      within = stage-within old row (Sending now.at) next.holds.shape.stages (next-sending next)
-          (sending-not_over now.at);
-      stages = ap (λ (c : Course T). c.stages) step.becomes;
-      records = ap (λ (c : Course T). c.records) step.becomes;
-      firsts = ap (λ (c : Course T). c.firsts) step.becomes;
-      again = ap (λ (m : Move). opened_again m.progress) step.is
-          ∙ leaves-by (λ (m : Move). opened_again m.progress ≡ opened_again p) network row p step.arrival
-          (λ _. refl) (λ _. refl);
-      likes = subst Likes (sym step.is)
-          (leaves-by Likes network row p step.arrival (λ _. likes-same p.hops) (λ _. likes-same p.hops));
-      ports = ap (λ (c : Course T). length c.ports) step.becomes ∙ simp length-set;
-      turns = ap (λ (c : Course T). length c.turns) step.becomes ∙ simp length-set;
-      arrives_from = ap (λ (c : Course T). length c.arrives_from) step.becomes ∙ simp length-set;
-    }
-
--- after the end of a transmission the lists fit as before
-pub ends-shape : {T : Type 0} {key : T → ℕ → ℕ → ℕ} {wait : ℕ → ℕ → ℕ} {network : DeclaredNetwork}
-    {releases : List Release} {old new : Course T} {now : Moment} {row : ℕ} {entries more : List (Moment × Event)}
-    → IsNext key wait network releases old now (End row) entries → Ends key wait network old new now row more
-    → IsShaped network releases new
-ends-shape {T} {key} {wait} {network} {releases} {old} {new} {now} {row} next step =
-    moved-shape network releases old new row step.move.stage step.move.progress next.holds.shape
-    (ends-moved next step)
-
 -- and each row is as far as its stage says
-pub ends-frames : {T : Type 0} {key : T → ℕ → ℕ → ℕ} {wait : ℕ → ℕ → ℕ} {network : DeclaredNetwork}
-    {releases : List Release} {old new : Course T} {now : Moment} {row : ℕ} {entries more : List (Moment × Event)}
-    → IsNext key wait network releases old now (End row) entries → Ends key wait network old new now row more
+pub selects-frames : {T : Type 0} {key : T → ℕ → ℕ → ℕ} {wait : ℕ → ℕ → ℕ} {network : DeclaredNetwork}
+    {releases : List Release} {old new : Course T} {now : Moment} {port : ℕ} {entries more : List (Moment × Event)}
+    → IsNext key wait network releases old now (Selection port) entries → Selects key wait network old new now port more
     → (n : ℕ) → n < length new.records
     → IsFrame network new (progress_at new.records n) (stage_at new n)
-ends-frames {T} {key} {wait} {network} {releases} {old} {new} {now} {row} next step =
-    let moved : IsMoved old new row step.move.stage step.move.progress = ends-moved next step in
-    let p : Progress = progress_at old.records row in
-    moved-frames network old new row step.move.stage step.move.progress next.holds.shape.stages moved
+selects-frames {T} {key} {wait} {network} {releases} {old} {new} {now} {port} next step =
+    let moved : IsMoved old new step.row step.move.stage step.move.progress = selects-moved next step in
+    moved-frames network old new step.row step.move.stage step.move.progress next.holds.shape.stages moved
     next.holds.frames
     (subst (λ (m : Move). IsFrame network old m.progress m.stage) (sym step.is)
-    (leave-stands network old row p now.at step.arrival
-    (known-frame old row (Sending now.at) next.holds.frames (next-sending next) moved.within)))
+    (waiting-leaves network old step.row (progress_at old.records step.row) now.at step.end step.arrival
+    (known-frame old step.row Waiting next.holds.frames (selects-stage next step) moved.within)))

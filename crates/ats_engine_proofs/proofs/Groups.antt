@@ -28,16 +28,15 @@ use Rattle.ats_trace.specs.declared.journey.Release.{Release}
 use Rattle.ats_run_records.specs.Progress.{Progress, progress_at}
 use Rattle.ats_engine_steps.specs.Course.{Course, handed_so_far, place_at, place_of, sender_of}
 use Rattle.ats_engine_steps.specs.Judging.{AreGroupsOf, IsStateOf, IsGroupOf, ArePassed}
-use Rattle.ats_engine_steps.specs.Steps.{Comes, BecomesEligible, Selects, Ends, class_behind, verdict_now, groups_now}
+use Rattle.ats_engine_steps.specs.Steps.{Comes, BecomesEligible, Selects, class_behind, verdict_now, groups_now}
 use Rattle.ats_engine_steps.specs.Steps.{scheduler_before}
 use Rattle.ats_engine_steps.specs.declared.event.Event.{Event}
-use Rattle.ats_engine_steps.specs.declared.event.Event.TheVariants.{End, Arrival, Eligibility, Selection}
+use Rattle.ats_engine_steps.specs.declared.event.Event.TheVariants.{Arrival, Eligibility, Selection}
 use Rattle.ats_engine_proofs.specs.Next.{IsNext, IsArrival}
 use Rattle.ats_engine_proofs.proofs.Allowed.{may-come}
 use Rattle.ats_engine_proofs.proofs.Judged.{IsScheduler, verdict-is, state-own, state-other, verdicts-more, state-more}
 use Rattle.ats_engine_proofs.proofs.Now.{next-reached}
 use Rattle.ats_engine_proofs.proofs.Travels.{comes-first, comes-here, comes-elsewhere, offered-handed, selects-handed}
-use Rattle.ats_engine_proofs.proofs.Travels.{ends-handed}
 
 -- at its own station a row is judged by no group
 first_groups : (network : DeclaredNetwork) (groups : GroupsState) (p : Progress) (now : ℕ) → length p.hops ≡ 0
@@ -456,7 +455,7 @@ offered-flows {T} {key} {wait} {network} next step other below =
 -- it holds after a selection
 pub selects-members : {T : Type 0} {key : T → ℕ → ℕ → ℕ} {wait : ℕ → ℕ → ℕ} {network : DeclaredNetwork}
     {releases : List Release} {old new : Course T} {now : Moment} {port : ℕ} {entries more : List (Moment × Event)}
-    → IsNext key wait network releases old now (Selection port) entries → Selects key network old new now port more
+    → IsNext key wait network releases old now (Selection port) entries → Selects key wait network old new now port more
     → AreGroupsOf network new.groups
 selects-members {T} {key} {wait} {network} next step =
     subst (AreGroupsOf network) (sym (ap (λ (c : Course T). c.groups) step.becomes)) next.holds.members
@@ -464,7 +463,7 @@ selects-members {T} {key} {wait} {network} next step =
 -- each group has judged what arrived
 pub selects-groups : {T : Type 0} {key : T → ℕ → ℕ → ℕ} {wait : ℕ → ℕ → ℕ} {network : DeclaredNetwork}
     {releases : List Release} {old new : Course T} {now : Moment} {port : ℕ} {entries more : List (Moment × Event)}
-    → IsNext key wait network releases old now (Selection port) entries → Selects key network old new now port more
+    → IsNext key wait network releases old now (Selection port) entries → Selects key wait network old new now port more
     → (other class : ℕ) → other < length network.topology.ports → 1 ≤ class → class ≤ 7
     → IsGroupOf network new other class
 selects-groups {T} {key} {wait} {network} {releases} {old} {new} {now} next step other class below least most =
@@ -477,36 +476,7 @@ selects-groups {T} {key} {wait} {network} {releases} {old} {new} {now} next step
 -- and flows' frames were passed
 pub selects-flows : {T : Type 0} {key : T → ℕ → ℕ → ℕ} {wait : ℕ → ℕ → ℕ} {network : DeclaredNetwork}
     {releases : List Release} {old new : Course T} {now : Moment} {port : ℕ} {entries more : List (Moment × Event)}
-    → IsNext key wait network releases old now (Selection port) entries → Selects key network old new now port more
+    → IsNext key wait network releases old now (Selection port) entries → Selects key wait network old new now port more
     → (other : ℕ) → other < length network.topology.ports → ArePassed network new other
 selects-flows {T} {key} {wait} {network} next step other below =
     subst (All (IsPassed network)) (sym (selects-handed next step other 0)) (next.holds.flows other below)
-
--- and after the end of a transmission
-pub ends-members : {T : Type 0} {key : T → ℕ → ℕ → ℕ} {wait : ℕ → ℕ → ℕ} {network : DeclaredNetwork}
-    {releases : List Release} {old new : Course T} {now : Moment} {row : ℕ} {entries more : List (Moment × Event)}
-    → IsNext key wait network releases old now (End row) entries → Ends key wait network old new now row more
-    → AreGroupsOf network new.groups
-ends-members {T} {key} {wait} {network} next step =
-    subst (AreGroupsOf network) (sym (ap (λ (c : Course T). c.groups) step.becomes)) next.holds.members
-
--- each group has judged what arrived
-pub ends-groups : {T : Type 0} {key : T → ℕ → ℕ → ℕ} {wait : ℕ → ℕ → ℕ} {network : DeclaredNetwork}
-    {releases : List Release} {old new : Course T} {now : Moment} {row : ℕ} {entries more : List (Moment × Event)}
-    → IsNext key wait network releases old now (End row) entries → Ends key wait network old new now row more
-    → (other class : ℕ) → other < length network.topology.ports → 1 ≤ class → class ≤ 7
-    → IsGroupOf network new other class
-ends-groups {T} {key} {wait} {network} {releases} {old} {new} {now} next step other class below least most =
-    same_group network old new now other class (ends-handed next step other class)
-    (λ state is. subst (λ (g : GroupsState). IsStateOf network g other class state)
-    (sym (ap (λ (c : Course T). c.groups) step.becomes)) is)
-    (ap (λ (c : Course T). c.last) step.becomes) (next-reached next).time
-    (next.holds.groups other class below least most)
-
--- and flows' frames were passed
-pub ends-flows : {T : Type 0} {key : T → ℕ → ℕ → ℕ} {wait : ℕ → ℕ → ℕ} {network : DeclaredNetwork}
-    {releases : List Release} {old new : Course T} {now : Moment} {row : ℕ} {entries more : List (Moment × Event)}
-    → IsNext key wait network releases old now (End row) entries → Ends key wait network old new now row more
-    → (other : ℕ) → other < length network.topology.ports → ArePassed network new other
-ends-flows {T} {key} {wait} {network} next step other below =
-    subst (All (IsPassed network)) (sym (ends-handed next step other 0)) (next.holds.flows other below)

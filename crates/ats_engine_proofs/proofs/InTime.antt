@@ -34,12 +34,15 @@ use Rattle.ats_trace.specs.declared.journey.Release.{Release}
 use Rattle.ats_trace.proofs.Legs.{legs_keep}
 use Rattle.ats_trace.proofs.OneVerdict.{copies_many}
 use Rattle.ats_events.specs.declared.moment.Moment.{Moment}
+use Rattle.ats_transmit.specs.State.{PortState, opened}
 use Rattle.ats_run_records.specs.Progress.{finished}
 use Rattle.ats_engine_steps.specs.Course.{Course, crossings_so_far, travels}
 use Rattle.ats_engine_steps.specs.Invariant.{Holds}
+use Rattle.ats_engine_steps.specs.Ports.{port_state_at}
 use Rattle.ats_engine_steps.specs.declared.event.Event.{Event}
 use Rattle.ats_engine_proofs.specs.InTime.{IsSentBefore, IsEndBefore, IsRunInTime}
 use Rattle.ats_engine_proofs.proofs.Conclusion.{ended-run, run-finished}
+use Rattle.ats_engine_proofs.proofs.Crossed.{crossed-ended}
 use Rattle.ats_engine_proofs.proofs.Finished.{ledger_in}
 use Rattle.ats_engine_proofs.proofs.EachLeg.{IsRecordOf, crossings-at, each-leg, hops-at, leg_told}
 use Rattle.ats_engine_proofs.proofs.LateTimes.{IsEligibleBefore, IsHopDoneBefore, IsJourneyDoneBefore, IsLegDoneBefore}
@@ -313,11 +316,12 @@ each-crossed {T} {key} {wait} {network} {releases} {course} {entries} holds =
     each-of-port (λ (x : Crossing). x.port) (IsCrossedBefore after_all) ports crossings (λ p within.
     let link : IsPort (length network.topology.nodes) (port_at network.topology.ports p) =
     (ports_are_lawful network.topology holds.rules.topology).each p no_port within in
-    let last = holds.bounds.last in
+    let s : PortState T = port_state_at course p in
+    let last = holds.bounds.ends p (opened 0 [] course.tie) (omega (arith, within, holds.shape.ports)) in
     let so_far : List Crossing = crossings_so_far network course p in
     All-permutation (IsCrossedBefore after_all) so_far (crossings_by network (travels course) p)
     (crossings-so_far holds.shape p) (λ k d h. (
-    let ends = (holds.paces p within).ended k d h in
+    let ends = crossed-ended key network course p s (holds.ports p within) k d h in
     let arrives = (holds.paces p within).rule.within k d h in
     record {
       end = omega (arith, ends, last);

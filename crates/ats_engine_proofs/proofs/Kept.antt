@@ -6,19 +6,18 @@ use Rattle.ats_events.specs.declared.moment.Moment.{Moment}
 use Rattle.ats_trace.specs.declared.journey.Release.{Release}
 use Rattle.ats_engine_steps.specs.Course.{Course}
 use Rattle.ats_engine_steps.specs.Invariant.{Holds}
-use Rattle.ats_engine_steps.specs.Steps.{Comes, BecomesEligible, Selects, Ends, due_entries, rows_next}
+use Rattle.ats_engine_steps.specs.Steps.{Comes, BecomesEligible, Selects, due_entries, rows_next}
 use Rattle.ats_engine_steps.specs.declared.event.Event.{Event}
-use Rattle.ats_engine_steps.specs.declared.event.Event.TheVariants.{End, Arrival, Eligibility, Selection}
+use Rattle.ats_engine_steps.specs.declared.event.Event.TheVariants.{Arrival, Eligibility, Selection}
 use Rattle.ats_engine_proofs.specs.Next.{IsNext}
-use Rattle.ats_engine_proofs.proofs.Entries.{comes-awaited, offered-awaited, selects-awaited, ends-awaited}
+use Rattle.ats_engine_proofs.proofs.Entries.{comes-awaited, offered-awaited, selects-awaited}
 use Rattle.ats_engine_proofs.proofs.Frames.{comes-shape, comes-frames, offered-shape, offered-frames, selects-shape}
-use Rattle.ats_engine_proofs.proofs.Frames.{selects-frames, ends-shape, ends-frames}
+use Rattle.ats_engine_proofs.proofs.Frames.{selects-frames}
 use Rattle.ats_engine_proofs.proofs.Groups.{comes-members, comes-groups, comes-flows, offered-members, offered-groups}
 use Rattle.ats_engine_proofs.proofs.Groups.{offered-flows, selects-members, selects-groups, selects-flows}
-use Rattle.ats_engine_proofs.proofs.Groups.{ends-members, ends-groups, ends-flows}
-use Rattle.ats_engine_proofs.proofs.Paces.{comes-paces, offered-paces, selects-paces, ends-paces}
-use Rattle.ats_engine_proofs.proofs.Ports.{comes-ports, offered-ports, selects-ports, ends-ports}
-use Rattle.ats_engine_proofs.proofs.Times.{comes-bounds, offered-bounds, selects-bounds, ends-bounds}
+use Rattle.ats_engine_proofs.proofs.Paces.{comes-paces, offered-paces, selects-paces}
+use Rattle.ats_engine_proofs.proofs.Ports.{comes-ports, offered-ports, selects-ports}
+use Rattle.ats_engine_proofs.proofs.Times.{comes-bounds, offered-bounds, selects-bounds}
 
 -- what holds does so again after each step: a frame that comes, along a leg and those that begin there
 pub comes-holds : {T : Type 0} {key : T → ℕ → ℕ → ℕ} {wait : ℕ → ℕ → ℕ} {network : DeclaredNetwork}
@@ -63,37 +62,18 @@ offered-holds next step =
 -- a port that selects
 pub selects-holds : {T : Type 0} {key : T → ℕ → ℕ → ℕ} {wait : ℕ → ℕ → ℕ} {network : DeclaredNetwork}
     {releases : List Release} {old new : Course T} {now : Moment} {port : ℕ} {entries more : List (Moment × Event)}
-    → IsNext key wait network releases old now (Selection port) entries → Selects key network old new now port more
-    → Holds key wait network releases new (more ++ entries)
-selects-holds next step =
+    → WaitsWithin wait → IsNext key wait network releases old now (Selection port) entries
+    → Selects key wait network old new now port more → Holds key wait network releases new (more ++ entries)
+selects-holds within next step =
     record {
       rules = next.holds.rules;
       shape = selects-shape next step;
       frames = selects-frames next step;
       awaited = selects-awaited next step;
       ports = selects-ports next step;
-      paces = selects-paces next step;
+      paces = selects-paces within next step;
       members = selects-members next step;
       groups = selects-groups next step;
       flows = selects-flows next step;
-      bounds = selects-bounds next step;
-    }
-
--- a transmission that ends
-pub ends-holds : {T : Type 0} {key : T → ℕ → ℕ → ℕ} {wait : ℕ → ℕ → ℕ} {network : DeclaredNetwork}
-    {releases : List Release} {old new : Course T} {now : Moment} {row : ℕ} {entries more : List (Moment × Event)}
-    → WaitsWithin wait → IsNext key wait network releases old now (End row) entries
-    → Ends key wait network old new now row more → Holds key wait network releases new (more ++ entries)
-ends-holds within next step =
-    record {
-      rules = next.holds.rules;
-      shape = ends-shape next step;
-      frames = ends-frames next step;
-      awaited = ends-awaited next step;
-      ports = ends-ports next step;
-      paces = ends-paces within next step;
-      members = ends-members next step;
-      groups = ends-groups next step;
-      flows = ends-flows next step;
-      bounds = ends-bounds within next step;
+      bounds = selects-bounds within next step;
     }

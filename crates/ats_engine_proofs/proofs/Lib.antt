@@ -6,6 +6,7 @@ pub mod Beginning
 pub mod Begun
 pub mod Classes
 pub mod Conclusion
+pub mod Crossed
 pub mod Counting
 pub mod EachLeg
 pub mod Entries
@@ -23,6 +24,7 @@ pub mod Journeys
 pub mod Judged
 pub mod Kept
 pub mod LateTimes
+pub mod Lasting
 pub mod Left
 pub mod LegPorts
 pub mod Legwise
@@ -38,7 +40,6 @@ pub mod OwnParts
 pub mod Paces
 pub mod Parts
 pub mod Placed
-pub mod PortEnded
 pub mod PortKept
 pub mod PortLists
 pub mod PortOffered

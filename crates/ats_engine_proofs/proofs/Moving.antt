@@ -23,7 +23,7 @@ use Rattle.ats_engine_steps.specs.Steps.{set_each}
 use Rattle.ats_engine_steps.specs.declared.stage.Stage.{Stage}
 use Rattle.ats_engine_steps.specs.declared.stage.Stage.TheVariants.{Over}
 use Rattle.ats_engine_steps.specs.declared.turn.Turn.{Turn}
-use Rattle.ats_engine_steps.specs.declared.turn.Turn.TheVariants.{Resting, Selecting, Occupied}
+use Rattle.ats_engine_steps.specs.declared.turn.Turn.TheVariants.{Resting, Selecting}
 use Rattle.ats_engine_proofs.proofs.Offering.{count_by-map}
 use Rattle.ats_engine_proofs.proofs.Rows.{in-or-off, length-set_each, set_each-at, set_each-off}
 
@@ -32,7 +32,6 @@ pub selecting-phase : (port : ℕ) (turn : Turn) (now : Moment) → selection_by
     → now.phase ≡ SELECTION
 selecting-phase port Resting now e = absurd (none-some now e)
 selecting-phase port (Selecting at) now e = sym (ap (λ (m : Moment). m.phase) (same_Some _ now e))
-selecting-phase port Occupied now e = absurd (none-some now e)
 
 -- where a frame stands at a port, its last hop record says how
 pub last-stands : (Last : HopRecord → Type 0) (path : List ℕ) (hops : List HopRecord) → Stands Last path hops

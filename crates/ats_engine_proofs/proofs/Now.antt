@@ -1,7 +1,6 @@
 -- What is known of the time of the next event, and of the ports of its network.
 use Rattle.std.proofs.Common.{ℕ, ◌+◌, ◌<◌, ◌≤◌, List, length, arith}
 use Rattle.std.proofs.lemmas.List.Elements.{All-head}
-use Rattle.ats_num.specs.declared.time.TheConstants.{END}
 use Rattle.ats_topology.specs.Port.{port_at, no_port}
 use Rattle.ats_topology.specs.Topology.{IsPort}
 use Rattle.ats_topology.proofs.Rules.{ports_are_lawful}
@@ -21,14 +20,15 @@ pub next-reached : {T : Type 0} {key : T → ℕ → ℕ → ℕ} {wait : ℕ �
 next-reached {T} {key} {wait} {network} {releases} {old} {now} {event} {entries} next =
     All-head (λ (entry : Moment × Event). IsReached old.last entry.0) (now, event) entries next.holds.awaited.reached
 
--- and it is before the end of time
+-- and it is within the horizon
 pub next-in_time : {T : Type 0} {key : T → ℕ → ℕ → ℕ} {wait : ℕ → ℕ → ℕ} {network : DeclaredNetwork}
     {releases : List Release} {old : Course T} {now : Moment} {event : Event} {entries : List (Moment × Event)}
-    → IsNext key wait network releases old now event entries → now.at.0 < END
+    → IsNext key wait network releases old now event entries → now.at.0 ≤ horizon
 next-in_time {T} {key} {wait} {network} {releases} {old} {now} {event} {entries} next =
-    let most = All-head (λ (entry : Moment × Event). entry.0.at.0 + all_left old ≤ horizon) (now, event) entries
+    let most : now.at.0 + all_left old ≤ horizon =
+    All-head (λ (entry : Moment × Event). entry.0.at.0 + all_left old ≤ horizon) (now, event) entries
     next.holds.bounds.each in
-    omega (arith, most)
+    omega arith
 
 -- each port keeps the rules of a port
 pub next-port : {T : Type 0} {key : T → ℕ → ℕ → ℕ} {wait : ℕ → ℕ → ℕ} {network : DeclaredNetwork}

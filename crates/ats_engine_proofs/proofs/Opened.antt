@@ -3,8 +3,9 @@ use Rattle.std.proofs.Common.{◌≡◌, ℕ, zero, suc, ◌+◌, ◌-◌, ◌*�
 use Rattle.std.proofs.Common.{Option, None, Some, refl, sym, ap, ◌∙◌, subst, inl, inr, arith, replicate, IsPermutation}
 use Rattle.std.specs.Prelude.{Contains, IfSome, ℤ, pos, slice_get, ◌==◌, ◌&&◌}
 use Rattle.std.specs.List.{filter, flat_map, zip, sum_by}
-use Rattle.std.proofs.lemmas.Bool.{cases_lt, true≢false}
+use Rattle.std.proofs.lemmas.Bool.{cases_lt}
 use Rattle.std.proofs.lemmas.List.{get_or-map, get_or-replicate, get_or_append_left, get_or-append_right, get_or_past}
+use Rattle.std.proofs.lemmas.List.{get_or_default}
 use Rattle.std.proofs.lemmas.List.{length-append, length-map, length-replicate}
 use Rattle.std.proofs.lemmas.List.Elements.{All-nil, All-cons, All-head, All-tail, All-append, All-map}
 use Rattle.std.proofs.lemmas.List.FromFn.{length-map-range_with_len}
@@ -26,6 +27,7 @@ use Rattle.ats_schedulers.specs.Schedulers.{IsHop, group_behind, residence_of, r
 use Rattle.ats_schedulers.proofs.Listing.{members_are}
 use Rattle.ats_schedulers.proofs.Places.{scheduler_within, scheduler_there}
 use Rattle.ats_port_rule.specs.Transmission.{Transmission}
+use Rattle.ats_transmit.specs.Sending.{last_end}
 use Rattle.ats_transmit.specs.State as standing
 use Rattle.ats_transmit.specs.State.{PortState}
 use Rattle.ats_transmit.specs.declared.offer.Offer.{Offer}
@@ -45,7 +47,7 @@ use Rattle.ats_run_records.proofs.AllCounts.{length-trunks, no_release}
 use Rattle.ats_engine_steps.specs.Bounds.{EndsInTime}
 use Rattle.ats_engine_steps.specs.Course.{Course, path_of, sender_of, stage_at, turn_at, arrives_from_at, leg_hops}
 use Rattle.ats_engine_steps.specs.Course.{leg_crossings, leg_handed, sent_so_far, crossings_so_far, handed_so_far}
-use Rattle.ats_engine_steps.specs.Entries.{AreAwaited, IsReached, moment_of, arrival_by, eligibility_by, end_by}
+use Rattle.ats_engine_steps.specs.Entries.{AreAwaited, IsReached, moment_of, arrival_by, eligibility_by}
 use Rattle.ats_engine_steps.specs.Entries.{selection_by}
 use Rattle.ats_engine_steps.specs.Frames.{IsFrame, Goes, start_by}
 use Rattle.ats_engine_steps.specs.Invariant.{Holds, IsShaped}
@@ -53,9 +55,9 @@ use Rattle.ats_engine_steps.specs.Judging.{AreGroupsOf, IsGroupOf, IsStateOf}
 use Rattle.ats_engine_steps.specs.Paces.{IsPaced}
 use Rattle.ats_engine_steps.specs.Ports.{IsPortOf, IsHeld, IsTurn, port_state_at, room_of}
 use Rattle.ats_engine_steps.specs.declared.event.Event.{Event}
-use Rattle.ats_engine_steps.specs.declared.event.Event.TheVariants.{End, Arrival, Eligibility, Selection}
+use Rattle.ats_engine_steps.specs.declared.event.Event.TheVariants.{Arrival, Eligibility, Selection}
 use Rattle.ats_engine_steps.specs.declared.stage.Stage.{Stage}
-use Rattle.ats_engine_steps.specs.declared.stage.Stage.TheVariants.{Apart, Coming, Waiting, Sending, Over}
+use Rattle.ats_engine_steps.specs.declared.stage.Stage.TheVariants.{Apart, Coming, Waiting, Over}
 use Rattle.ats_engine_steps.specs.declared.turn.Turn.{Turn}
 use Rattle.ats_engine_steps.specs.declared.turn.Turn.TheVariants.{Resting}
 use Rattle.ats_engine_proofs.specs.Opened.{IsOpened, IsFresh, released_from}
@@ -349,10 +351,6 @@ nowhere-to-be {X} o P none = subst (λ (x : Option X). IfSome x P) (sym none) tt
 opened-there : {T : Type 0} (network : DeclaredNetwork) (releases : List Release) (course : Course T)
     → IsOpened network releases course → (event : Event)
     → IfSome (moment_of course event) (λ moment. Contains (released_from 0 releases) (moment, event))
-opened-there network releases course opened (End frame) =
-    either-stage network releases course frame
-    (λ (s : Stage). IfSome (end_by frame s) (λ moment. Contains (released_from 0 releases) (moment, End frame)))
-    opened (λ _. tt) tt tt
 opened-there network releases course opened (Arrival frame) =
     let long = length-released 0 releases in
     either-stage network releases course frame
@@ -395,7 +393,7 @@ opened-awaited network releases course opened =
           (sym opened.last) (record { time = omega arith; phase = λ _. omega arith });
     }
 
--- a port that was just opened holds, sends and has sent nothing
+-- a port that was just opened holds and has sent nothing
 fresh-port : {T : Type 0} (key : T → ℕ → ℕ → ℕ) (network : DeclaredNetwork) (releases : List Release)
     (course : Course T) (port : ℕ) (rooms : List ℕ) → AreReleases network releases → IsOpened network releases course
     → ((class : ℕ) → class ≤ 7 → get_or rooms class 0 ≡ room_of network course port class)
@@ -421,15 +419,11 @@ fresh-port {T} key network releases course port rooms are opened each =
         waiting = λ row within waits place. absurd (never-waits row waits);
         apart = λ i j d less h. absurd (omega arith);
       };
-      sends = record {
-        under_way = λ sends. absurd (true≢false (sym sends));
-        sending = λ row until within sends place. absurd (never-sends row until sends);
-      };
-      turn = subst (IsTurn fresh) (sym (turn-is network releases course port opened)) (refl, refl);
+      turn = subst (IsTurn fresh) (sym (turn-is network releases course port opened)) refl;
+      free = refl;
       times = record {
         started = λ some. absurd (omega arith);
         selected = λ some. absurd (omega arith);
-        ended = λ free. omega arith;
         eligible = All-nil (λ (o : Offer). o.eligible.0 ≤ course.last.at.0);
       };
     }
@@ -438,11 +432,6 @@ fresh-port {T} key network releases course port rooms are opened each =
     never-waits row waits =
         either-stage network releases course row (λ (s : Stage). s ≡ Waiting → ⊥) opened (λ _ h. cc (h)) (λ h. cc (h))
         (λ h. cc (h)) waits
-
-    never-sends : (row : ℕ) (until : Ps) → stage_at course row ≡ Sending until → ⊥
-    never-sends row until sends =
-        either-stage network releases course row (λ (s : Stage). s ≡ Sending until → ⊥) opened (λ _ h. cc (h))
-        (λ h. cc (h)) (λ h. cc (h)) sends
 
 -- so each port is as it has to be
 opened-ports : {T : Type 0} (key : T → ℕ → ℕ → ℕ) (network : DeclaredNetwork) (releases : List Release)
@@ -476,7 +465,6 @@ opened-paces wait network releases course are opened port within =
       });
       pace = subst (KeepsPace wait link) none (λ k d h. absurd (omega arith));
       next = arrives-from-is network releases course port opened within ∙ ap (in_order_from END) none;
-      ended = subst (All (λ (x : Crossing). x.sent.end ≤ course.last.at.0)) none (λ k d h. absurd (omega arith));
     }
 
 -- the groups at first
@@ -542,7 +530,7 @@ opened-groups network releases course are opened port class =
 opened-bounds : {T : Type 0} (network : DeclaredNetwork) (releases : List Release) (course : Course T)
     → IsNetwork network → AreReleases network releases → HaveFewPorts network releases
     → IsOpened network releases course → EndsInTime course (released_from 0 releases)
-opened-bounds network releases course rules are few opened =
+opened-bounds {T} network releases course rules are few opened =
     let n : ℕ = length (copies_in network releases) in
     let comes : List Stage = map (λ (r : Release). Coming r.at) releases in
     let early : All IsEarly course.stages = subst (All IsEarly) (sym opened.stages)
@@ -561,6 +549,11 @@ opened-bounds network releases course rules are few opened =
           let at = ap (λ (entry : Moment × Event). entry.0.at.0) (entry-at releases i d within) in
           let time = (are.each i no_release within).time in
           omega (arith, few, most, rooms));
+      ends = λ port d h.
+          (let is : IsFresh network course port = opened.ports port (omega (arith, h, opened.count)) in
+          let none = ap (λ (s : PortState T). last_end s.sent)
+          (get_or_default course.ports port d (standing.opened 0 [] course.tie) h ∙ is.fresh) in
+          omega (arith, few, most, rooms, none));
     }
   where
     apart-early : (n : ℕ) → All IsEarly (replicate n Apart)

@@ -1,22 +1,20 @@
 -- What one frame gives to the projections of a run, before and after each step.
 use Rattle.std.proofs.Common.{◌≡◌, ◌≢◌, ℕ, Bool, true, false, cond, List, [], ◌∷◌, ◌++◌, map, filter, length, All}
 use Rattle.std.proofs.Common.{IsPermutation, Some, None, refl, sym, ap, ◌∙◌, subst, arith}
-use Rattle.std.specs.Prelude.{◌==◌, ◌&&◌, Option, AllPairs}
+use Rattle.std.specs.Prelude.{◌==◌, ◌&&◌, Option}
 use Rattle.std.specs.List.{flat_map, zip}
 use Rattle.std.proofs.lemmas.Bool.{cond-true, cond-false, eq-eqb, ne_eqb, eqb-true, and_from, and_parts}
 use Rattle.std.proofs.lemmas.Bool.{false_from_ne_true}
 use Rattle.std.proofs.lemmas.List.{append-nil, map-append}
-use Rattle.std.proofs.lemmas.List.Elements.{All-nil, All-cons, All-head, All-tail, All-append, filter-append}
+use Rattle.std.proofs.lemmas.List.Elements.{All-nil, All-cons, All-head, All-append, filter-append}
 use Rattle.std.proofs.lemmas.List.Sorted.{IsPermutation-sym, IsPermutation-to_front}
-use Rattle.ats_facts.proofs.Lists.{all_left, all_right, pairs_head, pairs_tail}
+use Rattle.ats_facts.proofs.Lists.{all_left, all_right}
 use Rattle.ats_num.specs.declared.time.Ps.{Ps}
 use Rattle.ats_network.specs.Class.{class_at}
 use Rattle.ats_network.specs.Sender.{Sender}
 use Rattle.ats_network.specs.Network.{DeclaredNetwork}
-use Rattle.ats_group.specs.declared.verdict.Verdict.{Verdict}
-use Rattle.ats_group.specs.declared.verdict.Verdict.TheVariants.{Eligible, Late, Size}
 use Rattle.ats_port_rule.specs.Transmission.{Transmission}
-use Rattle.ats_trace.specs.Projections.{Hop, Crossing, Handed, transmission_by, transmission_of, hop_at, crossing_at}
+use Rattle.ats_trace.specs.Projections.{Hop, Crossing, Handed, transmission_of, hop_at, crossing_at}
 use Rattle.ats_trace.specs.Projections.{crossing_of, hops_along, crossings_along, handed_along}
 use Rattle.ats_trace.specs.declared.journey.Release.{Release}
 use Rattle.ats_trace.specs.HopRecord.{HopRecord}
@@ -24,7 +22,7 @@ use Rattle.ats_trace.specs.declared.journey.Ending.{Ending}
 use Rattle.ats_trace.specs.declared.journey.Ending.TheVariants.{Sink, Discard}
 use Rattle.ats_run_records.specs.Progress.{Progress, with_hop}
 use Rattle.ats_engine_steps.specs.Course.{ending_by, path_of, sender_of}
-use Rattle.ats_engine_steps.specs.Frames.{Goes, IsSent, IsSentUntil, IsUnsent}
+use Rattle.ats_engine_steps.specs.Frames.{Goes, IsSent, IsUnsent}
 use Rattle.ats_engine_steps.specs.declared.stage.Stage.{Stage}
 use Rattle.ats_engine_proofs.proofs.Gathered.{hops_at, crossings_at, handed_in, sent_part, crossings_part, handed_part}
 use Rattle.ats_engine_proofs.proofs.Parts.{IsLast, transmitted, once-sent, no-hops, no-crossings, no-handed}
@@ -213,94 +211,21 @@ module _ (frame : ℕ) (release : Release) (sender : Sender) (path : List ℕ) w
       ∙ sym (ap (handed_along frame release sender path) at.recorded
       ∙ handed-here frame release sender IsUnsent path hops at at.last)
 
-  -- a frame whose transmission ends crosses its port
-  pub ended-crossings : (hops : List HopRecord) (until arrival : Ps) (at : IsLast (IsSentUntil until) path hops)
+  -- a frame that was sent crosses its port when it arrives behind it
+  pub sent-crossings : (hops : List HopRecord) (arrival : Ps) (at : IsLast IsSent path hops)
       → crossings_along frame release sender path hops (Sink arrival)
       ≡ crossings_along frame release sender path hops Discard
       ++ crossing_of release.octets at.last.arrival.0 at.port
-      (transmitted frame release (class_at sender at.port) at.here.eligible (at.here.start, until)) arrival.0 ∷ []
-  ended-crossings hops until arrival at =
-      let Here : HopRecord → Type 0 = IsSentUntil until in
-      let t : Transmission =
-      transmitted frame release (class_at sender at.port) at.here.eligible (at.here.start, until) in
-      let is = once-sent frame release (class_at sender at.port) at.last at.here.eligible (at.here.start, until)
-      at.here.verdict at.here.sent in
+      (sent-there frame release sender at.port at.last at.here) arrival.0 ∷ []
+  sent-crossings hops arrival at =
+      let t : Transmission = sent-there frame release sender at.port at.last at.here in
+      let is = sent-is at.port at.last at.here in
       let one : Crossing = crossing_of release.octets at.last.arrival.0 at.port t arrival.0 in
       ap (λ (hs : List HopRecord). crossings_along frame release sender path hs (Sink arrival)) at.recorded
-      ∙ crossings-left frame release sender Here path hops at at.last t arrival is
+      ∙ crossings-left frame release sender IsSent path hops at at.last t arrival is
       ∙ ap (λ (xs : List Crossing). xs ++ one ∷ [])
       (sym (ap (λ (hs : List HopRecord). crossings_along frame release sender path hs Discard) at.recorded
-      ∙ crossings-sent frame release sender Here path hops at at.last t is))
-
-  -- until then it has crossed the ports before alone
-  pub ended-before : (hops : List HopRecord) (until : Ps) (at : IsLast (IsSentUntil until) path hops)
-      → crossings_along frame release sender path hops Discard
-      ≡ crossings_along frame release sender at.passed at.before (Sink at.last.arrival)
-  ended-before hops until at =
-      let is = once-sent frame release (class_at sender at.port) at.last at.here.eligible (at.here.start, until)
-      at.here.verdict at.here.sent in
-      ap (λ (hs : List HopRecord). crossings_along frame release sender path hs Discard) at.recorded
-      ∙ crossings-sent frame release sender (IsSentUntil until) path hops at at.last
-      (transmitted frame release (class_at sender at.port) at.here.eligible (at.here.start, until)) is
-
--- what holds of each crossing that a frame may make at a port
-abbrev AtAnyTime : (Crossing → Type 0) → ℕ → ℕ → ℕ → Type 0
-AtAnyTime P frame octets port =
-    (came arrival : ℕ) (t : Transmission) → t.frame ≡ frame → P (crossing_of octets came port t arrival)
-
--- holds of each that it made there
-one-crossing : (P : Crossing → Type 0) (frame : ℕ) (release : Release) (class came port : ℕ) (v : Verdict)
-    (sent : Option (Ps × Ps)) (hops : List HopRecord) (ending : Ending) → AtAnyTime P frame release.octets port
-    → All P (crossing_at release.octets came port (transmission_by frame release class v sent) hops ending)
-one-crossing P frame release class came port (Eligible e) (Some times) [] (Sink at) each =
-    All-cons P (crossing_of release.octets came port (transmitted frame release class e times) at.0) []
-    (each came at.0 (transmitted frame release class e times) refl) (All-nil P)
-one-crossing P frame release class came port (Eligible e) (Some times) [] Discard each = All-nil P
-one-crossing P frame release class came port (Eligible e) (Some times) (next ∷ hops) ending each =
-    All-cons P (crossing_of release.octets came port (transmitted frame release class e times) next.arrival.0) []
-    (each came next.arrival.0 (transmitted frame release class e times) refl) (All-nil P)
-one-crossing P frame release class came port (Eligible e) None hops ending each = All-nil P
-one-crossing P frame release class came port (Late e) sent hops ending each = All-nil P
-one-crossing P frame release class came port Size sent hops ending each = All-nil P
-
--- and so along its path
-all-crossings : (P : Crossing → Type 0) (frame : ℕ) (release : Release) (sender : Sender) (path : List ℕ)
-    (hops : List HopRecord) (ending : Ending) → All (AtAnyTime P frame release.octets) path
-    → All P (crossings_along frame release sender path hops ending)
-all-crossings P frame release sender [] hops ending each = All-nil P
-all-crossings P frame release sender (p ∷ path) [] ending each = All-nil P
-all-crossings P frame release sender (p ∷ path) (hop ∷ hops) ending each =
-    All-append P (crossing_at release.octets hop.arrival.0 p (transmission_of frame release (class_at sender p) hop)
-    hops ending) (crossings_along frame release sender path hops ending)
-    (one-crossing P frame release (class_at sender p) hop.arrival.0 p hop.verdict hop.sent hops ending
-    (All-head (AtAnyTime P frame release.octets) p path each))
-    (all-crossings P frame release sender path hops ending (All-tail (AtAnyTime P frame release.octets) p path each))
-
--- each crossing of a frame has its number
-pub crossings-numbered : (frame : ℕ) (release : Release) (sender : Sender) (path : List ℕ) (hops : List HopRecord)
-    (ending : Ending)
-    → All (λ (x : Crossing). x.sent.frame ≡ frame) (crossings_along frame release sender path hops ending)
-crossings-numbered frame release sender path hops ending =
-    all-crossings (λ (x : Crossing). x.sent.frame ≡ frame) frame release sender path hops ending
-    (λ k d h came arrival t is. is)
-
--- where a port is not on the path, none is of it
-pub crossings-elsewhere : (frame : ℕ) (release : Release) (sender : Sender) (port : ℕ) (path : List ℕ)
-    (hops : List HopRecord) (ending : Ending) → All (λ (q : ℕ). q ≢ port) path
-    → All (λ (x : Crossing). x.port ≢ port) (crossings_along frame release sender path hops ending)
-crossings-elsewhere frame release sender port path hops ending apart =
-    all-crossings (λ (x : Crossing). x.port ≢ port) frame release sender path hops ending
-    (λ k d h came arrival t is. apart k d h)
-
--- the ports of a path that were passed are not the one behind them
-pub passed-apart : (passed : List ℕ) (port : ℕ) (ahead : List ℕ)
-    → AllPairs (λ (p q : ℕ). p ≢ q) (passed ++ port ∷ ahead) → All (λ (q : ℕ). q ≢ port) passed
-passed-apart [] port ahead pairs = All-nil (λ (q : ℕ). q ≢ port)
-passed-apart (p ∷ passed) port ahead pairs =
-    let first = pairs_head (λ (p q : ℕ). p ≢ q) p (passed ++ port ∷ ahead) pairs in
-    All-cons (λ (q : ℕ). q ≢ port) p passed
-    (All-head (λ (q : ℕ). p ≢ q) port ahead (all_right (λ (q : ℕ). p ≢ q) passed (port ∷ ahead) first))
-    (passed-apart passed port ahead (pairs_tail (λ (p q : ℕ). p ≢ q) p (passed ++ port ∷ ahead) pairs))
+      ∙ crossings-sent frame release sender IsSent path hops at at.last t is))
 
 -- whatever one frame crossed of a port was sent by it
 kept-crossing : (P : Transmission → Type 0) (kept : Bool) (port : ℕ) (x : Crossing)

@@ -3,19 +3,16 @@ use Rattle.std.proofs.Common.{◌≡◌, ℕ, ◌<◌, ◌≤◌, List, length, 
 use Rattle.std.specs.Prelude.{◌≢◌, Contains, IsPermutation}
 use Rattle.std.proofs.lemmas.Bool.{cases_eq}
 use Rattle.std.proofs.lemmas.List.Elements.{All-weaker}
-use Rattle.ats_num.specs.declared.time.Ps.{Ps}
 use Rattle.ats_port_rule.specs.Transmission.{Transmission}
 use Rattle.ats_network.specs.Network.{DeclaredNetwork}
-use Rattle.ats_transmit.specs.Sending.{last_of, last_start, last_end, transmissions}
+use Rattle.ats_transmit.specs.Sending.{last_start, transmissions}
 use Rattle.ats_transmit.specs.State.{PortState}
 use Rattle.ats_transmit.specs.declared.offer.Offer.{Offer}
-use Rattle.ats_transmit.specs.declared.sent.Sent.{Sent}
 use Rattle.ats_events.specs.declared.phase.TheConstants.{SELECTION}
-use Rattle.ats_run_records.specs.Progress.{Progress, progress_at}
 use Rattle.ats_engine_steps.specs.Course.{Course, offer_at, offer_of, place_at, place_of, sent_so_far, stage_at}
 use Rattle.ats_engine_steps.specs.Course.{turn_at}
-use Rattle.ats_engine_steps.specs.Ports.{IsTurn, IsHeld, IsUnderWay, Sends, IsPortOf}
-use Rattle.ats_engine_steps.specs.declared.stage.Stage.TheVariants.{Waiting, Sending}
+use Rattle.ats_engine_steps.specs.Ports.{IsTurn, IsHeld, IsPortOf}
+use Rattle.ats_engine_steps.specs.declared.stage.Stage.TheVariants.{Waiting}
 use Rattle.ats_engine_proofs.proofs.Moving.{Changes}
 
 -- a frame that waits at a port along a row's leg still does where the row stays
@@ -30,18 +27,6 @@ held-else {T} {network} port o c h stays = record {
   same = ap (offer_of network) (c.records h.row stays) ∙ h.same;
 }
 
--- one that a port sends is still on its way there
-pub under-way-else : {T : Type 0} {network : DeclaredNetwork} {old new : Course T} {Stays : ℕ → Type 0} (port : ℕ)
-    (x : Sent) → Changes network old new Stays → (h : IsUnderWay network old port x) → Stays h.row
-    → IsUnderWay network new port x
-under-way-else {T} {network} port x c h stays = record {
-  row = h.row;
-  within = subst (λ (n : ℕ). h.row < n) (sym c.count) h.within;
-  named = ap (λ (p : Progress). p.frame) (c.records h.row stays) ∙ h.named;
-  stage = c.stages h.row stays ∙ h.stage;
-  place = ap (place_of network) (c.records h.row stays) ∙ h.place;
-}
-
 -- a port holds one that waits there, as it did
 pub waiting-else : {T : Type 0} {network : DeclaredNetwork} {old new : Course T} {Stays : ℕ → Type 0}
     (key : T → ℕ → ℕ → ℕ) (port other : ℕ) (s : PortState T) → Changes network old new Stays → Stays other
@@ -50,17 +35,6 @@ pub waiting-else : {T : Type 0} {network : DeclaredNetwork} {old new : Course T}
 waiting-else {T} {network} key port other s c stays is within stage place =
     subst (Contains s.held) (ap (offer_of network) (sym (c.records other stays)))
     (is.holding.waiting other (subst (λ (n : ℕ). other < n) c.count within) (sym (c.stages other stays) ∙ stage)
-    (ap (place_of network) (sym (c.records other stays)) ∙ place))
-
--- and sends one that is on its way there
-pub sending-else : {T : Type 0} {network : DeclaredNetwork} {old new : Course T} {Stays : ℕ → Type 0}
-    (key : T → ℕ → ℕ → ℕ) (port other : ℕ) (until : Ps) (s : PortState T) → Changes network old new Stays
-    → Stays other → IsPortOf key network old port s → other < length new.records
-    → stage_at new other ≡ Sending until → place_at network new other ≡ port
-    → Sends s (progress_at new.records other).frame until.0
-sending-else {T} {network} key port other until s c stays is within stage place =
-    subst (λ (p : Progress). Sends s p.frame until.0) (sym (c.records other stays))
-    (is.sends.sending other until (subst (λ (n : ℕ). other < n) c.count within) (sym (c.stages other stays) ∙ stage)
     (ap (place_of network) (sym (c.records other stays)) ∙ place))
 
 -- a last start that was no later than the last event is still no later, and one at its time is of a selection's phase
@@ -93,10 +67,9 @@ eligible-later {T} {network} {old} {new} key port s c is =
     All-weaker (λ (o : Offer). o.eligible.0 ≤ old.last.at.0) (λ (o : Offer). o.eligible.0 ≤ new.last.at.0)
     (λ o before. omega arith) s.held is.times.eligible
 
--- a frame neither waits at a port nor is sent there along a row's leg
-pub record IsAway {T : Type 0} (network : DeclaredNetwork) (course : Course T) (port row : ℕ) : Type 0 where
-  pub waiting : stage_at course row ≡ Waiting → place_at network course row ≢ port
-  pub sending : (until : Ps) → stage_at course row ≡ Sending until → place_at network course row ≢ port
+-- a frame does not wait at a port along a row's leg
+abbrev pub IsAway : {T : Type 0} → DeclaredNetwork → Course T → ℕ → ℕ → Type 0
+IsAway network course port row = stage_at course row ≡ Waiting → place_at network course row ≢ port
 
 -- so it is before and after a step
 pub record PassesBy {T : Type 0} (network : DeclaredNetwork) (old new : Course T) (port row : ℕ) : Type 0 where
@@ -109,18 +82,8 @@ held-stays : {T : Type 0} {network : DeclaredNetwork} {old new : Course T} {Stay
     → IsHeld network old port o → IsHeld network new port o
 held-stays {T} {network} {old} {new} port o c moves h = elim (moves h.row) as (λ _. IsHeld network new port o) [
   | inl stays ↦ held-else port o c h stays
-  | inr by ↦ absurd (by.before.waiting h.stage h.place)
+  | inr by ↦ absurd (by.before h.stage h.place)
 ]
-
--- and sends one so
-under-way-stays : {T : Type 0} {network : DeclaredNetwork} {old new : Course T} {Stays : ℕ → Type 0} (port : ℕ)
-    (x : Sent) → Changes network old new Stays → ((row : ℕ) → Stays row ⊎ PassesBy network old new port row)
-    → IsUnderWay network old port x → IsUnderWay network new port x
-under-way-stays {T} {network} {old} {new} port x c moves h =
-    elim (moves h.row) as (λ _. IsUnderWay network new port x) [
-      | inl stays ↦ under-way-else port x c h stays
-      | inr by ↦ absurd (by.before.sending x.end h.stage h.place)
-    ]
 
 -- a port stays what it was where the rows that move were away from it and are so still
 pub port-stays : {T : Type 0} {network : DeclaredNetwork} {old new : Course T} {Stays : ℕ → Type 0}
@@ -144,24 +107,15 @@ port-stays {T} {network} {old} {new} key port s c is moves sent turn = record {
     waiting = λ other within stage place. elim (moves other)
         as (λ _. Contains s.held (offer_at network new other)) [
           | inl stays ↦ waiting-else key port other s c stays is within stage place
-          | inr by ↦ absurd (by.after.waiting stage place)
+          | inr by ↦ absurd (by.after stage place)
         ];
     apart = is.holding.apart;
   };
-  sends = record {
-    under_way = λ sending. under-way-stays port (last_of s.sent) c moves (is.sends.under_way sending);
-    sending = λ other until within stage place. elim (moves other)
-        as (λ _. Sends s (progress_at new.records other).frame until.0) [
-          | inl stays ↦ sending-else key port other until s c stays is within stage place
-          | inr by ↦ absurd (by.after.sending until stage place)
-        ];
-  };
   turn = subst (IsTurn s) (sym turn) is.turn;
+  free = is.free;
   times = record {
     started = started-later key port s c is;
     selected = selected-later key port s c is;
-    ended = λ free. (let past : old.last.at.0 ≤ new.last.at.0 = c.reached.time in
-        let before : last_end s.sent ≤ old.last.at.0 = is.times.ended free in omega arith);
     eligible = eligible-later key port s c is;
   };
 }

@@ -1,5 +1,5 @@
-use Rattle.std.proofs.Common.{◌≡◌, ℕ, ◌<◌, ◌≤◌, false, List, [], ◌∷◌, ◌++◌, length, All, ap, ◌∙◌, sym, subst}
-use Rattle.std.proofs.Common.{inl, inr, arith}
+use Rattle.std.proofs.Common.{◌≡◌, ℕ, ◌<◌, ◌≤◌, List, [], ◌∷◌, ◌++◌, length, All, ap, ◌∙◌, sym, subst}
+use Rattle.std.proofs.Common.{inl, inr, max, arith, refl}
 use Rattle.std.specs.Prelude.{◌≢◌, Any, AllPairs, Contains, IsPermutation, map}
 use Rattle.std.proofs.lemmas.Bool.{cases_eq}
 use Rattle.std.proofs.lemmas.List.Elements.{All-cons, All-append, All-map, All-weaker, All-contains}
@@ -8,8 +8,8 @@ use Rattle.ats_facts.proofs.Pairs.{pairs_more}
 use Rattle.ats_num.specs.declared.time.Ps.{Ps}
 use Rattle.ats_port_rule.specs.Transmission.{Transmission}
 use Rattle.ats_network.specs.Network.{DeclaredNetwork}
-use Rattle.ats_transmit.specs.Picks.{IsFirstStart}
-use Rattle.ats_transmit.specs.Sending.{last_of, last_end, transmissions}
+use Rattle.ats_transmit.specs.Picks.{IsFirstStart, MaySend}
+use Rattle.ats_transmit.specs.Sending.{last_end, transmissions}
 use Rattle.ats_transmit.specs.State.{PortState, IsLawfulPort}
 use Rattle.ats_transmit.specs.declared.offer.Offer.{Offer}
 use Rattle.ats_transmit.specs.declared.sent.Sent.{Sent}
@@ -18,11 +18,11 @@ use Rattle.ats_engine_steps.specs.Course.{Course, offer_at, offer_of, place_at, 
 use Rattle.ats_engine_steps.specs.Course.{turn_at}
 use Rattle.ats_engine_steps.specs.Ports.{IsTurn, IsHeld, IsPortOf, frames_at}
 use Rattle.ats_engine_steps.specs.Steps.{turn_once_offered}
-use Rattle.ats_engine_steps.specs.declared.stage.Stage.TheVariants.{Due, Waiting, Sending}
+use Rattle.ats_engine_steps.specs.declared.stage.Stage.TheVariants.{Due, Waiting}
 use Rattle.ats_engine_steps.specs.declared.turn.Turn.{Turn}
-use Rattle.ats_engine_steps.specs.declared.turn.Turn.TheVariants.{Resting, Selecting, Occupied}
+use Rattle.ats_engine_steps.specs.declared.turn.Turn.TheVariants.{Resting, Selecting}
 use Rattle.ats_engine_proofs.proofs.Moving.{Changes}
-use Rattle.ats_engine_proofs.proofs.PortKept.{held-else, under-way-else, waiting-else, sending-else}
+use Rattle.ats_engine_proofs.proofs.PortKept.{held-else, waiting-else}
 use Rattle.ats_engine_proofs.proofs.PortKept.{started-later, selected-later, eligible-later}
 use Rattle.ats_engine_proofs.proofs.PortLists.{flip, contains-more, contains-new, any-more, any-split, frames-offered}
 
@@ -41,14 +41,6 @@ pub record IsOffering {T : Type 0} (network : DeclaredNetwork) (old new : Course
 -- a frame that is due does not wait
 due-waiting : (at : Ps) → Due at ≡ Waiting → ⊥
 due-waiting at e = cc
-
--- nor is it being sent
-due-sending : (at until : Ps) → Due at ≡ Sending until → ⊥
-due-sending at until e = cc
-
--- and one that waits is not being sent
-waiting-sending : (until : Ps) → Waiting ≡ Sending until → ⊥
-waiting-sending until e = cc
 
 -- it waits at the port, to which it was offered as it is
 held-offered : {T : Type 0} {network : DeclaredNetwork} {old new : Course T} {now : Ps} {row port : ℕ}
@@ -119,31 +111,6 @@ all-apart {T} {network} {old} row key s held is p not_held not_sent =
     (frames-offered (offer_at network old row) s.held held s.sent p)
     (All-append Other (map of_offer s.held) (map of_sent s.sent) first second) is.holding.apart
 
--- a port that has nothing to do selects now
-turn-rested : {T : Type 0} {network : DeclaredNetwork} {old new : Course T} {now : Ps} {row port : ℕ}
-    (key : T → ℕ → ℕ → ℕ) (s : PortState T) (held : List Offer) → IsOffering network old new now row port
-    → IsPortOf key network old port s → IsPermutation (offer_at network old row ∷ s.held) held
-    → s.is_sending ≡ false → s.held ≡ [] → IsFirstStart held s.sent now.0
-turn-rested {T} {network} {old} {new} {now} {row} key s held o is p free empty =
-    let offer : Offer = offer_at network old row in
-    let past : old.last.at.0 ≤ new.last.at.0 = o.changes.reached.time in
-    let is_now : new.last.at.0 ≡ now.0 = ap (λ (at : Ps). at.0) o.last in
-    let eligible : offer.eligible.0 ≡ now.0 = ap (λ (at : Ps). at.0) o.eligible in
-    let ended : last_end s.sent ≤ old.last.at.0 = is.times.ended free in
-    let there : Contains held offer = contains-new offer s.held held p in
-    record {
-      reached = record {
-        free = omega arith;
-        eligible = (there.0, offer, there.1, there.2, omega arith);
-      };
-      first = λ earlier may. (
-          let By : Offer → Type 0 = λ (x : Offer). x.eligible.0 ≤ earlier in
-          elim (any-split By offer s.held held p may.eligible) as (λ _. now.0 ≤ earlier) [
-            | inl by ↦ omega arith
-            | inr other ↦ (let none : Any By [] = subst (Any By) empty other in absurd (omega (arith, none.2)))
-          ]);
-    }
-
 -- one that is to select at some time does so still
 turn-selecting : {T : Type 0} {network : DeclaredNetwork} {old new : Course T} {now : Ps} {row port : ℕ}
     (key : T → ℕ → ℕ → ℕ) (s : PortState T) (held : List Offer) (at : ℕ)
@@ -175,26 +142,47 @@ turn-selecting {T} {network} {old} {new} {now} {row} key s held at o is p was =
           ]);
     }
 
+-- one that held nothing selects the frame that it is offered, once it is eligible and the port is free
+pub rested-at : (offer : Offer) (before held : List Offer) (sent : List Sent) (at : ℕ)
+    → IsPermutation (offer ∷ before) held → before ≡ [] → IsFirstStart held sent at
+    → at ≡ max offer.eligible.0 (last_end sent)
+rested-at offer before held sent at p empty first =
+    let By : Offer → Type 0 = λ (x : Offer). x.eligible.0 ≤ at in
+    let soonest : ℕ = max offer.eligible.0 (last_end sent) in
+    let there : Contains held offer = contains-new offer before held p in
+    let may : MaySend held sent soonest = record {
+      free = omega arith;
+      eligible = (there.0, offer, there.1, there.2, omega arith);
+    } in
+    let soon : at ≤ soonest = first.first soonest may in
+    let free : last_end sent ≤ at = first.reached.free in
+    elim (any-split By offer before held p first.reached.eligible) as (λ _. at ≡ soonest) [
+      | inl by ↦ omega arith
+      | inr other ↦ (let none : Any By [] = subst (Any By) empty other in absurd (omega (arith, none.2)))
+    ]
+
 -- the port does next what its turn says then
 turn-offered : {T : Type 0} {network : DeclaredNetwork} {old new : Course T} {now : Ps} {row port : ℕ}
-    (key : T → ℕ → ℕ → ℕ) (s : PortState T) (held : List Offer) → IsOffering network old new now row port
+    (key : T → ℕ → ℕ → ℕ) (s : PortState T) (held : List Offer) (at : Ps) → IsOffering network old new now row port
     → IsPortOf key network old port s → IsPermutation (offer_at network old row ∷ s.held) held
-    → (turn : Turn) → IsTurn s turn → IsTurn (record s { held = held }) (turn_once_offered turn now)
-turn-offered key s held o is p Resting t = (t.0, turn-rested key s held o is p t.0 t.1)
-turn-offered key s held o is p (Selecting at) t = (t.0, turn-selecting key s held at.0 o is p t.1)
-turn-offered key s held o is p Occupied t = t
+    → (turn : Turn) → (turn ≡ Resting → IsFirstStart held s.sent at.0) → IsTurn s turn
+    → IsTurn (record s { held = held }) (turn_once_offered turn at)
+turn-offered key s held at o is p Resting first t = first refl
+turn-offered key s held at o is p (Selecting time) first t = turn-selecting key s held time.0 o is p t
 
 -- the port holds the frame too
 pub port-offered : {T : Type 0} {network : DeclaredNetwork} {old new : Course T} {now : Ps} {row port : ℕ}
-    (key : T → ℕ → ℕ → ℕ) (s : PortState T) (held : List Offer) → IsOffering network old new now row port
+    (key : T → ℕ → ℕ → ℕ) (s : PortState T) (held : List Offer) (at : Ps) → IsOffering network old new now row port
     → IsPortOf key network old port s → IsPermutation (offer_at network old row ∷ s.held) held
     → IsLawfulPort key (record s { held = held })
     → All (λ (x : Offer). x.frame ≢ (progress_at old.records row).frame) s.held
     → All (λ (x : Sent). x.frame ≢ (progress_at old.records row).frame) s.sent
     → sent_so_far network new port ≡ sent_so_far network old port
-    → turn_at new port ≡ turn_once_offered (turn_at old port) now
+    → (turn_at old port ≡ Resting → IsFirstStart held s.sent at.0)
+    → turn_at new port ≡ turn_once_offered (turn_at old port) at
     → IsPortOf key network new port (record s { held = held })
-port-offered {T} {network} {old} {new} {now} {row} {port} key s held o is p lawful not_held not_sent sent turn =
+port-offered {T} {network} {old} {new} {now} {row} {port} key s held at o is p lawful not_held not_sent sent first turn
+    =
     let c = o.changes in
     let t : PortState T = record s { held = held } in
     let offer : Offer = offer_at network old row in
@@ -216,21 +204,11 @@ port-offered {T} {network} {old} {new} {now} {row} {port} key s held o is p lawf
         waiting = all-there key s held o is p;
         apart = all-apart row key s held is p not_held not_sent;
       };
-      sends = record {
-        under_way = λ sending. (let h = is.sends.under_way sending in
-            under-way-else port (last_of s.sent) c h
-            (λ e. due-sending now (last_of s.sent).end (sym o.due ∙ ap (stage_at old) (sym e) ∙ h.stage)));
-        sending = λ other until within stage place. (
-            let apart : other ≢ row =
-            λ e. waiting-sending until (sym o.waits ∙ ap (stage_at new) (sym e) ∙ stage) in
-            let h = sending-else key port other until s c apart is within stage place in
-            record { sending = h.sending; named = h.named; end = h.end });
-      };
-      turn = subst (IsTurn t) (sym turn) (turn-offered key s held o is p (turn_at old port) is.turn);
+      turn = subst (IsTurn t) (sym turn) (turn-offered key s held at o is p (turn_at old port) first is.turn);
+      free = is.free;
       times = record {
         started = started-later key port s c is;
         selected = selected-later key port s c is;
-        ended = λ free. (let before : last_end s.sent ≤ old.last.at.0 = is.times.ended free in omega arith);
         eligible = All-permutation Eligible (offer ∷ s.held) held p
             (All-cons Eligible offer s.held (omega arith) (eligible-later key port s c is));
       };

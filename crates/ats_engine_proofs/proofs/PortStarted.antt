@@ -1,8 +1,7 @@
-use Rattle.std.proofs.Common.{◌≡◌, ℕ, ◌+◌, ◌*◌, ◌<◌, ◌≤◌, true, false, List, [], ◌∷◌, ◌++◌, length, All, ap, ◌∙◌, sym}
+use Rattle.std.proofs.Common.{◌≡◌, ℕ, ◌<◌, ◌≤◌, false, List, [], ◌∷◌, ◌++◌, length, All, ap, ◌∙◌, sym}
 use Rattle.std.proofs.Common.{subst}
-use Rattle.std.proofs.Common.{refl, inl, inr, arith}
+use Rattle.std.proofs.Common.{refl, arith}
 use Rattle.std.specs.Prelude.{◌≢◌, Contains, IsPermutation, map}
-use Rattle.std.proofs.lemmas.Bool.{cases_eq, true≢false}
 use Rattle.std.proofs.lemmas.List.{map_push}
 use Rattle.std.proofs.lemmas.List.Elements.{All-tail}
 use Rattle.std.proofs.lemmas.List.Sorted.{All-permutation, Contains-permutation, IsPermutation-trans}
@@ -10,7 +9,6 @@ use Rattle.std.proofs.lemmas.List.Sorted.{IsPermutation-cons}
 use Rattle.std.proofs.lemmas.List.Sorted.{IsPermutation-to_front}
 use Rattle.ats_facts.proofs.Lists.{all_left, all_unmapped}
 use Rattle.ats_facts.proofs.Pairs.{AllPairs-permutation, pairs_less}
-use Rattle.ats_num.specs.Wire.{bits_of}
 use Rattle.ats_num.specs.declared.time.Ps.{Ps}
 use Rattle.ats_port_rule.specs.Transmission.{Transmission}
 use Rattle.ats_network.specs.Network.{DeclaredNetwork}
@@ -21,57 +19,44 @@ use Rattle.ats_transmit.specs.declared.sent.Sent.{Sent}
 use Rattle.ats_events.specs.declared.phase.TheConstants.{SELECTION}
 use Rattle.ats_run_records.specs.Progress.{Progress, progress_at}
 use Rattle.ats_engine_steps.specs.Course.{Course, offer_at, place_at, place_of, sent_so_far, stage_at, turn_at}
-use Rattle.ats_engine_steps.specs.Ports.{IsTurn, IsHeld, IsUnderWay, Sends, IsPortOf, frames_at}
-use Rattle.ats_engine_steps.specs.declared.stage.Stage.TheVariants.{Waiting, Sending}
-use Rattle.ats_engine_steps.specs.declared.turn.Turn.TheVariants.{Occupied}
+use Rattle.ats_engine_steps.specs.Ports.{IsTurn, IsHeld, IsPortOf, frames_at}
+use Rattle.ats_engine_steps.specs.declared.stage.Stage.TheVariants.{Waiting}
 use Rattle.ats_engine_proofs.proofs.Moving.{Changes}
-use Rattle.ats_engine_proofs.proofs.PortKept.{held-else, waiting-else, sending-else, eligible-later}
+use Rattle.ats_engine_proofs.proofs.PortKept.{IsAway, held-else, waiting-else, eligible-later}
 use Rattle.ats_engine_proofs.proofs.PortLists.{flip, contains-rest, last-push, frames-taken, frames-started}
 
+-- the transmission of the frame
+abbrev starting : {T : Type 0} → PortState T → Offer → Ps → Sent
+starting s started now = sent_at s.ps_per_bit started now.0
+
+-- the port, once it has sent the frame
+abbrev pub once_started : {T : Type 0} → PortState T → List Offer → Offer → Ps → PortState T
+once_started s held started now = record s {
+  held = held;
+  sent = s.sent ++ starting s started now ∷ [];
+  is_sending = false;
+}
+
 -- a port starts a frame that it held now, along the one leg that has it, and holds these then
-pub record IsStarting {T : Type 0} (network : DeclaredNetwork) (old new : Course T) (now end : Ps) (row port : ℕ)
+pub record IsStarting {T : Type 0} (network : DeclaredNetwork) (old new : Course T) (now : Ps) (row port : ℕ)
     (s : PortState T) (held : List Offer) (started : Offer) : Type 0 where
   pub changes : Changes network old new (λ (other : ℕ). other ≢ row)
   pub within : row < length old.records
   pub offered : offer_at network old row ≡ started
   pub one : (other : ℕ) → other < length old.records → stage_at old other ≡ Waiting
       → place_at network old other ≡ port → (progress_at old.records other).frame ≡ started.frame → other ≡ row
-  pub ends : end.0 ≡ now.0 + s.ps_per_bit * bits_of started.octets
   pub takes : IsPermutation s.held (started ∷ held)
-  pub goes : stage_at new row ≡ Sending end
-  pub named : (progress_at new.records row).frame ≡ started.frame
-  pub place : place_at network new row ≡ port
+  pub away : IsAway network new port row
   pub last : new.last.at ≡ now
   pub phase : SELECTION ≤ new.last.phase
-  pub free : s.is_sending ≡ false
-  pub turn : turn_at new port ≡ Occupied
-
--- a frame that is being sent does not wait
-waiting-sending : (until : Ps) → Sending until ≡ Waiting → ⊥
-waiting-sending until e = cc
-
--- and is sent until one time
-same-end : (end until : Ps) → Sending end ≡ Sending until → end ≡ until
-same-end end until e = cc
-
--- the transmission of the frame
-abbrev starting : {T : Type 0} → PortState T → Offer → Ps → Sent
-starting s started now = sent_at s.ps_per_bit started now.0
-
--- the port, once it sends the frame
-abbrev pub once_started : {T : Type 0} → PortState T → List Offer → Offer → Ps → PortState T
-once_started s held started now = record s {
-  held = held;
-  sent = s.sent ++ starting s started now ∷ [];
-  is_sending = true;
-}
+  pub turn : IsTurn (once_started s held started now) (turn_at new port)
 
 -- no frame that the port still holds is the one that starts
-still-apart : {T : Type 0} {network : DeclaredNetwork} {old new : Course T} {now end : Ps} {row port : ℕ}
+still-apart : {T : Type 0} {network : DeclaredNetwork} {old new : Course T} {now : Ps} {row port : ℕ}
     {s : PortState T} {held : List Offer} {started : Offer} (key : T → ℕ → ℕ → ℕ)
-    → IsStarting network old new now end row port s held started → IsPortOf key network old port s
+    → IsStarting network old new now row port s held started → IsPortOf key network old port s
     → All (λ (o : Offer). started.frame ≢ o.frame) held
-still-apart {T} {network} {old} {new} {now} {end} {row} {port} {s} {held} {started} key o is =
+still-apart {T} {network} {old} {new} {now} {row} {port} {s} {held} {started} key o is =
     let of_offer : Offer → ℕ = λ (x : Offer). x.frame in
     let of_sent : Sent → ℕ = λ (x : Sent). x.frame in
     let Other : ℕ → Type 0 = λ (n : ℕ). started.frame ≢ n in
@@ -81,11 +66,11 @@ still-apart {T} {network} {old} {new} {now} {end} {row} {port} {s} {held} {start
     all_unmapped Other of_offer held (all_left Other (map of_offer held) (map of_sent s.sent) rest)
 
 -- those that it still holds wait there as before
-still-held : {T : Type 0} {network : DeclaredNetwork} {old new : Course T} {now end : Ps} {row port : ℕ}
+still-held : {T : Type 0} {network : DeclaredNetwork} {old new : Course T} {now : Ps} {row port : ℕ}
     {s : PortState T} {held : List Offer} {started : Offer} (key : T → ℕ → ℕ → ℕ)
-    → IsStarting network old new now end row port s held started → IsPortOf key network old port s
+    → IsStarting network old new now row port s held started → IsPortOf key network old port s
     → All (IsHeld network new port) held
-still-held {T} {network} {old} {new} {now} {end} {row} {port} {s} {held} {started} key o is =
+still-held {T} {network} {old} {new} {now} {row} {port} {s} {held} {started} key o is =
     let before : All (IsHeld network old port) held =
     All-tail (IsHeld network old port) started held
     (All-permutation (IsHeld network old port) s.held (started ∷ held) o.takes is.holding.held) in
@@ -108,15 +93,16 @@ more-sent s started now before after was more =
     (IsPermutation-trans _ _ _ (IsPermutation-cons x (transmissions s.sent) before was) more))
 
 -- whatever waits there is still held
-still-there : {T : Type 0} {network : DeclaredNetwork} {old new : Course T} {now end : Ps} {row port : ℕ}
+still-there : {T : Type 0} {network : DeclaredNetwork} {old new : Course T} {now : Ps} {row port : ℕ}
     {s : PortState T} {held : List Offer} {started : Offer} (key : T → ℕ → ℕ → ℕ)
-    → IsStarting network old new now end row port s held started → IsPortOf key network old port s
+    → IsStarting network old new now row port s held started → IsPortOf key network old port s
     → (other : ℕ) → other < length new.records → stage_at new other ≡ Waiting → place_at network new other ≡ port
     → Contains held (offer_at network new other)
-still-there {T} {network} {old} {new} {now} {end} {row} {port} {s} {held} {started} key o is other within stage
+still-there {T} {network} {old} {new} {now} {row} {port} {s} {held} {started} key o is other within stage
     place =
     let offer : Offer = offer_at network new other in
-    let apart : other ≢ row = λ e. waiting-sending end (sym o.goes ∙ ap (stage_at new) (sym e) ∙ stage) in
+    let apart : other ≢ row =
+    λ e. o.away (ap (stage_at new) (sym e) ∙ stage) (ap (place_at network new) (sym e) ∙ place) in
     contains-rest started offer held (Contains-permutation s.held (started ∷ held) offer o.takes
     (waiting-else key port other s o.changes apart is within stage place))
     (λ e. (
@@ -125,57 +111,15 @@ still-there {T} {network} {old} {new} {now} {end} {row} {port} {s} {held} {start
     (sym (o.changes.stages other apart) ∙ stage) (ap (place_of network) (sym kept) ∙ place)
     (ap (λ (p : Progress). p.frame) (sym kept) ∙ sym (ap (λ (x : Offer). x.frame) e)))))
 
--- the frame is on its way
-under-way-starts : {T : Type 0} {network : DeclaredNetwork} {old new : Course T} {now end : Ps} {row port : ℕ}
-    {s : PortState T} {held : List Offer} {started : Offer}
-    → IsStarting network old new now end row port s held started
-    → IsUnderWay network new port (starting s started now)
-under-way-starts {T} {network} {old} {new} {now} {end} {row} {port} {s} {held} {started} o =
-    let until : end ≡ (starting s started now).end = ap (λ (n : ℕ). let at : Ps = record { 0 = n } in at) o.ends in
-    record {
-      row = row;
-      within = subst (λ (n : ℕ). row < n) (sym o.changes.count) o.within;
-      named = o.named;
-      stage = o.goes ∙ ap Sending until;
-      place = o.place;
-    }
-
--- and only it
-sends-started : {T : Type 0} {network : DeclaredNetwork} {old new : Course T} {now end : Ps} {row port : ℕ}
+-- the port sends the frame from now on, to its end
+pub port-started : {T : Type 0} {network : DeclaredNetwork} {old new : Course T} {now : Ps} {row port : ℕ}
     {s : PortState T} {held : List Offer} {started : Offer} (key : T → ℕ → ℕ → ℕ)
-    → IsStarting network old new now end row port s held started → IsPortOf key network old port s
-    → (other : ℕ) (until : Ps) → other < length new.records → stage_at new other ≡ Sending until
-    → place_at network new other ≡ port
-    → Sends (once_started s held started now) (progress_at new.records other).frame until.0
-sends-started {T} {network} {old} {new} {now} {end} {row} {port} {s} {held} {started} key o is other until within
-    stage place =
-    let x : Sent = starting s started now in
-    let last : last_of (s.sent ++ x ∷ []) ≡ x = last-push s.sent x in
-    elim (cases_eq other row)
-    as (λ _. Sends (once_started s held started now) (progress_at new.records other).frame until.0) [
-      | inl e ↦ (
-          let same : end ≡ until = same-end end until (sym o.goes ∙ ap (stage_at new) (sym e) ∙ stage) in
-          record {
-            sending = refl;
-            named = ap (λ (y : Sent). y.frame) last ∙ sym o.named
-                ∙ ap (λ (n : ℕ). (progress_at new.records n).frame) (sym e);
-            end = ap (λ (y : Sent). y.end.0) last ∙ sym o.ends ∙ ap (λ (at : Ps). at.0) same;
-          })
-      | inr apart ↦ (
-          let busy : s.is_sending ≡ true =
-          (sending-else key port other until s o.changes apart is within stage place).sending in
-          absurd (true≢false (sym busy ∙ o.free)))
-    ]
-
--- the port sends the frame from now on
-pub port-started : {T : Type 0} {network : DeclaredNetwork} {old new : Course T} {now end : Ps} {row port : ℕ}
-    {s : PortState T} {held : List Offer} {started : Offer} (key : T → ℕ → ℕ → ℕ)
-    → IsStarting network old new now end row port s held started → IsPortOf key network old port s
+    → IsStarting network old new now row port s held started → IsPortOf key network old port s
     → IsLawfulPort key (once_started s held started now)
     → IsPermutation (begun s.ps_per_bit started now.0 ∷ sent_so_far network old port)
     (sent_so_far network new port)
     → IsPortOf key network new port (once_started s held started now)
-port-started {T} {network} {old} {new} {now} {end} {row} {port} {s} {held} {started} key o is lawful more =
+port-started {T} {network} {old} {new} {now} {row} {port} {s} {held} {started} key o is lawful more =
     let c = o.changes in
     let t : PortState T = once_started s held started now in
     let x : Sent = starting s started now in
@@ -200,15 +144,11 @@ port-started {T} {network} {old} {new} {now} {end} {row} {port} {s} {held} {star
         apart = AllPairs-permutation (λ (a b : ℕ). a ≢ b) flip (frames_at s) (frames_at t)
             (frames-started started x s.held held s.sent o.takes refl) is.holding.apart;
       };
-      sends = record {
-        under_way = λ _. subst (IsUnderWay network new port) (sym last) (under-way-starts o);
-        sending = sends-started key o is;
-      };
-      turn = subst (IsTurn t) (sym o.turn) refl;
+      turn = o.turn;
+      free = refl;
       times = record {
         started = λ _. omega (arith, start);
         selected = λ _ _. o.phase;
-        ended = λ free. absurd (true≢false free);
         eligible = All-tail Eligible started held
             (All-permutation Eligible s.held (started ∷ held) o.takes (eligible-later key port s c is));
       };

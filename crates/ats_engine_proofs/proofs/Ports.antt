@@ -13,13 +13,13 @@ use Rattle.ats_run_records.specs.Progress.{Progress, progress_at, with_hop}
 use Rattle.ats_engine_steps.specs.Course.{Course, stage_at, turn_at, place_of}
 use Rattle.ats_engine_steps.specs.Ports.{IsPortOf, port_state_at}
 use Rattle.ats_engine_steps.specs.Steps.{came, rows_next, set_each, stage_by, turn_once_offered}
-use Rattle.ats_engine_steps.specs.Steps.{Comes, BecomesEligible, Selects, Ends}
+use Rattle.ats_engine_steps.specs.Steps.{Comes, BecomesEligible, Selects}
 use Rattle.ats_engine_steps.specs.declared.event.Event.{Event}
-use Rattle.ats_engine_steps.specs.declared.event.Event.TheVariants.{End, Arrival, Eligibility, Selection}
+use Rattle.ats_engine_steps.specs.declared.event.Event.TheVariants.{Arrival, Eligibility, Selection}
 use Rattle.ats_engine_steps.specs.declared.stage.Stage.{Stage}
 use Rattle.ats_engine_steps.specs.declared.stage.Stage.TheVariants.{Apart, Coming, Due, Over}
 use Rattle.ats_engine_steps.specs.declared.turn.Turn.{Turn}
-use Rattle.ats_engine_steps.specs.declared.turn.Turn.TheVariants.{Resting, Occupied}
+use Rattle.ats_engine_steps.specs.declared.turn.Turn.TheVariants.{Resting}
 use Rattle.ats_engine_proofs.specs.Next.{IsNext}
 use Rattle.ats_engine_proofs.proofs.Allowed.{may-come}
 use Rattle.ats_engine_proofs.proofs.Away.{between-away, placed-away, stage-between}
@@ -29,11 +29,11 @@ use Rattle.ats_engine_proofs.proofs.Moving.{Changes, changes-each}
 use Rattle.ats_engine_proofs.proofs.Now.{next-reached}
 use Rattle.ats_engine_proofs.proofs.PortKept.{IsAway, PassesBy, passes-one, port-stays}
 use Rattle.ats_engine_proofs.proofs.PortOffered.{IsOffering}
-use Rattle.ats_engine_proofs.proofs.PortSteps.{ends-away, ends-changes, ends-this, offered-here, offering, selects-this}
+use Rattle.ats_engine_proofs.proofs.PortSteps.{offered-here, offering, selects-away, selects-this}
 use Rattle.ats_engine_proofs.proofs.PortSteps.{starting}
 use Rattle.ats_engine_proofs.proofs.Rows.{in-or-off, set_each-at}
 use Rattle.ats_engine_proofs.proofs.Stages.{next-coming}
-use Rattle.ats_engine_proofs.proofs.Travels.{comes-sent, ends-sent, offered-sent, selects-elsewhere, selects-place}
+use Rattle.ats_engine_proofs.proofs.Travels.{comes-sent, offered-sent, selects-elsewhere, selects-place}
 
 -- along the rows to which a frame comes it was held by no port
 before-between : {T : Type 0} {network : DeclaredNetwork} {old : Course T} (row n : ℕ) (at : Ps) (port : ℕ)
@@ -97,7 +97,7 @@ pub offered-ports : {T : Type 0} {key : T → ℕ → ℕ → ℕ} {wait : ℕ �
 offered-ports {T} {key} {wait} {network} {releases} {old} {new} {now} {row} next step other within =
     let port : ℕ = step.port in
     let o : IsOffering network old new now.at row port = offering next step in
-    let turn : Turn = turn_once_offered (turn_at old port) now.at in
+    let turn : Turn = turn_once_offered (turn_at old port) step.at in
     let Goal : ℕ → Type 0 = λ (n : ℕ). IsPortOf key network new n (port_state_at new n) in
     elim (cases_eq port other) as (λ _. Goal other) [
       | inl e ↦ subst Goal e (offered-here next step
@@ -117,10 +117,10 @@ offered-ports {T} {key} {wait} {network} {releases} {old} {new} {now} {row} next
           ∙ get_or-set_other old.turns port other turn Resting differs)))
     ]
 
--- after a port selected
+-- and after a port selected
 pub selects-ports : {T : Type 0} {key : T → ℕ → ℕ → ℕ} {wait : ℕ → ℕ → ℕ} {network : DeclaredNetwork}
     {releases : List Release} {old new : Course T} {now : Moment} {port : ℕ} {entries more : List (Moment × Event)}
-    → IsNext key wait network releases old now (Selection port) entries → Selects key network old new now port more
+    → IsNext key wait network releases old now (Selection port) entries → Selects key wait network old new now port more
     → (other : ℕ) → other < length network.topology.ports
     → IsPortOf key network new other (port_state_at new other)
 selects-ports {T} {key} {wait} {network} {releases} {old} {new} {now} {port} next step other within =
@@ -137,36 +137,9 @@ selects-ports {T} {key} {wait} {network} {releases} {old} {new} {now} {port} nex
           (port-stays key other (port_state_at old other) o.changes (next.holds.ports other within)
           (passes-one other row (record {
             before = placed-away network old port other row (selects-place next step) differs;
-            after = placed-away network new port other row o.place differs;
+            after = selects-away next step other;
           }))
           (selects-elsewhere next step other differs)
-          (ap (λ (x : Course T). turn_at x other) step.becomes
-          ∙ get_or-set_other old.turns port other Occupied Resting differs)))
-    ]
-
--- and after a transmission ended
-pub ends-ports : {T : Type 0} {key : T → ℕ → ℕ → ℕ} {wait : ℕ → ℕ → ℕ} {network : DeclaredNetwork}
-    {releases : List Release} {old new : Course T} {now : Moment} {row : ℕ} {entries more : List (Moment × Event)}
-    → IsNext key wait network releases old now (End row) entries → Ends key wait network old new now row more
-    → (other : ℕ) → other < length network.topology.ports
-    → IsPortOf key network new other (port_state_at new other)
-ends-ports {T} {key} {wait} {network} {releases} {old} {new} {now} {row} next step other within =
-    let port : ℕ = step.port in
-    let Goal : ℕ → Type 0 = λ (n : ℕ). IsPortOf key network new n (port_state_at new n) in
-    elim (cases_eq port other) as (λ _. Goal other) [
-      | inl e ↦ subst Goal e (ends-this next step
-          (subst (λ (n : ℕ). n < length network.topology.ports) (sym e) within))
-      | inr apart ↦ (
-          let differs : other ≢ port = λ e. apart (sym e) in
-          subst (IsPortOf key network new other)
-          (sym (ap (λ (x : Course T). port_state_at x other) step.becomes
-          ∙ get_or-set_other old.ports port other step.standing (opened 0 [] old.tie) differs))
-          (port-stays key other (port_state_at old other) (ends-changes next step) (next.holds.ports other within)
-          (passes-one other row (record {
-            before = placed-away network old port other row step.place differs;
-            after = ends-away next step other;
-          }))
-          (ends-sent next step other)
           (ap (λ (x : Course T). turn_at x other) step.becomes
           ∙ get_or-set_other old.turns port other step.turn Resting differs)))
     ]

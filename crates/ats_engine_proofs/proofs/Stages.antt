@@ -9,13 +9,13 @@ use Rattle.ats_network.specs.Network.{DeclaredNetwork}
 use Rattle.ats_events.specs.declared.moment.Moment.{Moment}
 use Rattle.ats_trace.specs.declared.journey.Release.{Release}
 use Rattle.ats_engine_steps.specs.Course.{Course, stage_at, turn_at}
-use Rattle.ats_engine_steps.specs.Entries.{arrival_by, eligibility_by, end_by, selection_by, moment_of}
+use Rattle.ats_engine_steps.specs.Entries.{arrival_by, eligibility_by, selection_by, moment_of}
 use Rattle.ats_engine_steps.specs.declared.event.Event.{Event}
-use Rattle.ats_engine_steps.specs.declared.event.Event.TheVariants.{End, Arrival, Eligibility, Selection}
+use Rattle.ats_engine_steps.specs.declared.event.Event.TheVariants.{Arrival, Eligibility, Selection}
 use Rattle.ats_engine_steps.specs.declared.stage.Stage.{Stage}
-use Rattle.ats_engine_steps.specs.declared.stage.Stage.TheVariants.{Apart, Coming, Due, Waiting, Sending, Over}
+use Rattle.ats_engine_steps.specs.declared.stage.Stage.TheVariants.{Apart, Coming, Due, Waiting, Over}
 use Rattle.ats_engine_steps.specs.declared.turn.Turn.{Turn}
-use Rattle.ats_engine_steps.specs.declared.turn.Turn.TheVariants.{Resting, Selecting, Occupied}
+use Rattle.ats_engine_steps.specs.declared.turn.Turn.TheVariants.{Resting, Selecting}
 use Rattle.ats_engine_proofs.specs.Next.{IsNext}
 
 -- the time of a moment, where there is one
@@ -29,7 +29,6 @@ coming-by row (Coming at) now is = ap (λ (m : Option Moment). Coming (time_of m
 coming-by row (Due at) now is = absurd (none-some now is)
 coming-by row Apart now is = absurd (none-some now is)
 coming-by row Waiting now is = absurd (none-some now is)
-coming-by row (Sending until) now is = absurd (none-some now is)
 coming-by row Over now is = absurd (none-some now is)
 
 -- one that becomes eligible then is due then
@@ -38,23 +37,12 @@ due-by row (Due at) now is = ap (λ (m : Option Moment). Due (time_of m at)) is
 due-by row (Coming at) now is = absurd (none-some now is)
 due-by row Apart now is = absurd (none-some now is)
 due-by row Waiting now is = absurd (none-some now is)
-due-by row (Sending until) now is = absurd (none-some now is)
 due-by row Over now is = absurd (none-some now is)
-
--- one whose transmission ends then is sent until then
-sending-by : (row : ℕ) (stage : Stage) (now : Moment) → end_by row stage ≡ Some now → stage ≡ Sending now.at
-sending-by row (Sending until) now is = ap (λ (m : Option Moment). Sending (time_of m until)) is
-sending-by row (Coming at) now is = absurd (none-some now is)
-sending-by row (Due at) now is = absurd (none-some now is)
-sending-by row Apart now is = absurd (none-some now is)
-sending-by row Waiting now is = absurd (none-some now is)
-sending-by row Over now is = absurd (none-some now is)
 
 -- a port that selects then is to select then
 selecting-by : (port : ℕ) (turn : Turn) (now : Moment) → selection_by port turn ≡ Some now → turn ≡ Selecting now.at
 selecting-by port (Selecting at) now is = ap (λ (m : Option Moment). Selecting (time_of m at)) is
 selecting-by port Resting now is = absurd (none-some now is)
-selecting-by port Occupied now is = absurd (none-some now is)
 
 -- when the next event is to happen
 pub next-moment : {T : Type 0} {key : T → ℕ → ℕ → ℕ} {wait : ℕ → ℕ → ℕ} {network : DeclaredNetwork}
@@ -77,13 +65,6 @@ pub next-due : {T : Type 0} {key : T → ℕ → ℕ → ℕ} {wait : ℕ → �
     → IsNext key wait network releases course now (Eligibility row) entries → stage_at course row ≡ Due now.at
 next-due {T} {key} {wait} {network} {releases} {course} {now} {row} next =
     due-by row (stage_at course row) now (next-moment next)
-
--- one whose transmission ends next is being sent
-pub next-sending : {T : Type 0} {key : T → ℕ → ℕ → ℕ} {wait : ℕ → ℕ → ℕ} {network : DeclaredNetwork}
-    {releases : List Release} {course : Course T} {now : Moment} {row : ℕ} {entries : List (Moment × Event)}
-    → IsNext key wait network releases course now (End row) entries → stage_at course row ≡ Sending now.at
-next-sending {T} {key} {wait} {network} {releases} {course} {now} {row} next =
-    sending-by row (stage_at course row) now (next-moment next)
 
 -- a port that selects next is to select
 pub next-selecting : {T : Type 0} {key : T → ℕ → ℕ → ℕ} {wait : ℕ → ℕ → ℕ} {network : DeclaredNetwork}

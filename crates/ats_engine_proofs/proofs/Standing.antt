@@ -14,14 +14,14 @@ use Rattle.ats_engine_steps.specs.Course.{Course, stage_at}
 use Rattle.ats_engine_steps.specs.Frames.{IsFrame, Goes, Stands, IsSent}
 use Rattle.ats_engine_steps.specs.Steps.{set_each}
 use Rattle.ats_engine_steps.specs.declared.event.Event.{Event}
-use Rattle.ats_engine_steps.specs.declared.event.Event.TheVariants.{End, Arrival, Eligibility, Selection}
+use Rattle.ats_engine_steps.specs.declared.event.Event.TheVariants.{Arrival, Eligibility, Selection}
 use Rattle.ats_engine_steps.specs.declared.stage.Stage.{Stage}
-use Rattle.ats_engine_steps.specs.declared.stage.Stage.TheVariants.{Coming, Due, Over, Sending}
+use Rattle.ats_engine_steps.specs.declared.stage.Stage.TheVariants.{Coming, Due, Over}
 use Rattle.ats_engine_steps.specs.declared.turn.Turn.TheVariants.{Selecting}
 use Rattle.ats_engine_proofs.specs.Next.{IsNext}
 use Rattle.ats_engine_proofs.proofs.Gathered.{gather-same, gather-more}
 use Rattle.ats_engine_proofs.proofs.Parts.{IsLast}
-use Rattle.ats_engine_proofs.proofs.Stages.{next-coming, next-due, next-sending, next-selecting, stage-within}
+use Rattle.ats_engine_proofs.proofs.Stages.{next-coming, next-due, next-selecting, stage-within}
 use Rattle.ats_engine_proofs.proofs.Stages.{turn-within}
 
 module _ {T : Type 0} {key : T → ℕ → ℕ → ℕ} {wait : ℕ → ℕ → ℕ} {network : DeclaredNetwork} {releases : List Release}
@@ -51,19 +51,6 @@ module _ {T : Type 0} {key : T → ℕ → ℕ → ℕ} {wait : ℕ → ℕ → 
   due-frame {row} next =
       subst (IsFrame network course (progress_at course.records row)) (next-due next)
       (next.holds.frames row (due-within next))
-
-  -- and the one along which a transmission ends next
-  pub ending-within : {row : ℕ} → IsNext key wait network releases course now (End row) entries
-      → row < length course.records
-  ending-within {row} next =
-      stage-within course row (Sending now.at) next.holds.shape.stages (next-sending next) (λ e. cc)
-
-  -- where the frame stands so
-  pub ending-frame : {row : ℕ} → IsNext key wait network releases course now (End row) entries
-      → IsFrame network course (progress_at course.records row) (Sending now.at)
-  ending-frame {row} next =
-      subst (IsFrame network course (progress_at course.records row)) (next-sending next)
-      (next.holds.frames row (ending-within next))
 
   -- and the port that selects next is one of the network
   pub selecting-within : {port : ℕ} → IsNext key wait network releases course now (Selection port) entries
@@ -215,7 +202,7 @@ module _ {T : Type 0} {old new : Course T} {row : ℕ} {stage : Stage} {progress
       (omega (arith, length-zip old.stages old.records, step.many, step.within)))
 
 -- what holds of a new element and of each that was there holds of each that is
-at-set : {X : Type 0} (P : X → Type 0) (xs : List X) (n : ℕ) (x : X) (m : ℕ) (d : X) → P x → P (get_or xs m d)
+pub at-set : {X : Type 0} (P : X → Type 0) (xs : List X) (n : ℕ) (x : X) (m : ℕ) (d : X) → P x → P (get_or xs m d)
     → P (get_or (set xs n x) m d)
 at-set P [] n x m d here there = there
 at-set P (y ∷ xs) zero x zero d here there = here

@@ -1,15 +1,13 @@
-use Rattle.std.proofs.Common.{◌≡◌, ℕ, ◌+◌, ◌-◌, ◌*◌, ◌<◌, ◌≤◌, Bool, true, false, List, [], ◌∷◌, ◌++◌, length, get_or}
-use Rattle.std.proofs.Common.{All, Option, Some, inl, inr, sym, ap, ◌∙◌, subst, arith}
+use Rattle.std.proofs.Common.{◌≡◌, ℕ, ◌+◌, ◌-◌, ◌<◌, ◌≤◌, Bool, true, false, List, [], ◌∷◌, ◌++◌, length, get_or, set}
+use Rattle.std.proofs.Common.{All, Option, Some, inl, inr, sym, ap, ◌∙◌, subst, arith, refl}
 use Rattle.std.specs.Prelude.{◌≢◌, ◌⊎◌, ◌==◌, sum_by}
 use Rattle.std.specs.List.{zip}
 use Rattle.std.proofs.lemmas.List.{length-append, length-set}
 use Rattle.std.proofs.lemmas.List.Elements.{All-append, All-cons, All-head, All-nil, All-tail}
 use Rattle.std.proofs.lemmas.List.Sorted.{All-permutation, IsPermutation-sym}
 use Rattle.std.proofs.lemmas.Option.{none-some, same_Some}
-use Rattle.std.proofs.Math.Nat.{mul-le-mul_right}
 use Rattle.ats_facts.proofs.Lists.{pairs_head}
 use Rattle.ats_num.specs.Pace.{WaitsWithin}
-use Rattle.ats_num.specs.Wire.{bits_of}
 use Rattle.ats_num.specs.declared.time.Ps.{Ps}
 use Rattle.ats_num.specs.declared.time.TheConstants.{PS_PER_SECOND}
 use Rattle.ats_topology.specs.Port.{port_at}
@@ -20,7 +18,7 @@ use Rattle.ats_group.specs.declared.verdict.Verdict.{Verdict}
 use Rattle.ats_group.specs.declared.verdict.Verdict.TheVariants.{Eligible, Late, Size}
 use Rattle.ats_transmit.specs.Picks.{MaySend}
 use Rattle.ats_transmit.specs.Sending.{last_end}
-use Rattle.ats_transmit.specs.State.{PortState}
+use Rattle.ats_transmit.specs.State.{PortState, opened}
 use Rattle.ats_transmit.specs.declared.offer.Offer.{Offer}
 use Rattle.ats_events.specs.declared.moment.Moment.{Moment}
 use Rattle.ats_trace.specs.Links.{ArrivesWithin}
@@ -31,37 +29,41 @@ use Rattle.ats_run_records.specs.Progress.{Progress, progress_at, last_hop, with
 use Rattle.ats_engine_steps.specs.Bounds.{EndsInTime, all_left, events_left, horizon, most_latency, most_left}
 use Rattle.ats_engine_steps.specs.Bounds.{most_sending}
 use Rattle.ats_engine_steps.specs.Bounds.{ports_left, steps_left}
-use Rattle.ats_engine_steps.specs.Course.{Course, crossings_so_far, path_of, place_at, stage_at, turn_at}
-use Rattle.ats_engine_steps.specs.Entries.{arrival_moment, end_moment, selection_moment}
+use Rattle.ats_engine_steps.specs.Course.{Course, crossings_so_far, path_of, stage_at, turn_at}
+use Rattle.ats_engine_steps.specs.Entries.{arrival_moment, selection_moment}
 use Rattle.ats_engine_steps.specs.Ports.{IsTurn, port_state_at}
-use Rattle.ats_engine_steps.specs.Steps.{Comes, BecomesEligible, Selects, Ends, Move, came, due_by, due_entries}
+use Rattle.ats_engine_steps.specs.Steps.{Comes, BecomesEligible, Selects, Move, came, due_by, due_entries}
 use Rattle.ats_engine_steps.specs.Steps.{rows_next, selections, selections_once_offered, set_each, stage_by}
 use Rattle.ats_engine_steps.specs.declared.event.Event.{Event}
-use Rattle.ats_engine_steps.specs.declared.event.Event.TheVariants.{End, Arrival, Eligibility, Selection}
+use Rattle.ats_engine_steps.specs.declared.event.Event.TheVariants.{Arrival, Eligibility, Selection}
 use Rattle.ats_engine_steps.specs.declared.stage.Stage.{Stage}
-use Rattle.ats_engine_steps.specs.declared.stage.Stage.TheVariants.{Apart, Coming, Due, Waiting, Sending}
+use Rattle.ats_engine_steps.specs.declared.stage.Stage.TheVariants.{Apart, Coming, Due, Waiting}
 use Rattle.ats_engine_steps.specs.declared.turn.Turn.{Turn}
-use Rattle.ats_engine_steps.specs.declared.turn.Turn.TheVariants.{Resting, Selecting, Occupied}
+use Rattle.ats_engine_steps.specs.declared.turn.Turn.TheVariants.{Resting, Selecting}
 use Rattle.ats_engine_proofs.specs.Next.{IsNext}
 use Rattle.ats_engine_proofs.proofs.Allowed.{may-come}
 use Rattle.ats_engine_proofs.proofs.Begun.{IsApart, next-or-apart, rows_begun}
-use Rattle.ats_engine_proofs.proofs.Entries.{ending-port, ending-sends, left_by, selecting-within, selects-end}
+use Rattle.ats_engine_proofs.proofs.Entries.{left_by}
 use Rattle.ats_engine_proofs.proofs.Fates.{of-due}
+use Rattle.ats_engine_proofs.proofs.Lasting.{selects-soon}
 use Rattle.ats_engine_proofs.proofs.Left.{left-after, left-entered}
 use Rattle.ats_engine_proofs.proofs.Now.{next-port, next-reached}
-use Rattle.ats_engine_proofs.proofs.Paces.{ends-paces}
-use Rattle.ats_engine_proofs.proofs.Stages.{next-coming, next-due, next-sending, stage-within}
-use Rattle.ats_engine_proofs.proofs.Travels.{ends-here, selects-held, selects-stage}
+use Rattle.ats_engine_proofs.proofs.Paces.{selects-paces}
+use Rattle.ats_engine_proofs.proofs.PortSteps.{offered-at, offered-within, selects-last}
+use Rattle.ats_engine_proofs.proofs.Stages.{next-coming, next-due, stage-within}
+use Rattle.ats_engine_proofs.proofs.Standing.{at-set, selecting-within}
+use Rattle.ats_engine_proofs.proofs.Travels.{selects-crossing, selects-stage}
 use Rattle.ats_engine_proofs.proofs.Verdicts.{IsSoon, soon_now}
 
--- the bounds hold after a step by which no more is left, and whose entries go no further than the next event
+-- the bounds hold after a step by which no more is left, where they hold of its entries and of the ports
 in-time : {T : Type 0} {key : T → ℕ → ℕ → ℕ} {wait : ℕ → ℕ → ℕ} {network : DeclaredNetwork}
     {releases : List Release} {old : Course T} {now : Moment} {event : Event} {entries : List (Moment × Event)}
-    (new : Course T) (more : List (Moment × Event)) (was is : ℕ)
-    → IsNext key wait network releases old now event entries → new.last ≡ now
-    → all_left new + was ≤ all_left old + is → is ≤ was
-    → All (λ (x : Moment × Event). x.0.at.0 + is ≤ now.at.0 + was) more → EndsInTime new (more ++ entries)
-in-time {T} {key} {wait} {network} {releases} {old} {now} {event} {entries} new more was is next last moved less each =
+    (new : Course T) (more : List (Moment × Event)) → IsNext key wait network releases old now event entries
+    → new.last ≡ now → all_left new ≤ all_left old
+    → All (λ (x : Moment × Event). x.0.at.0 + all_left new ≤ horizon) more
+    → All (λ (s : PortState T). last_end s.sent + all_left new ≤ horizon) new.ports
+    → EndsInTime new (more ++ entries)
+in-time {T} {key} {wait} {network} {releases} {old} {now} {event} {entries} new more next last less each ends =
     let InTime : ℕ → Moment × Event → Type 0 = λ (left : ℕ) (x : Moment × Event). x.0.at.0 + left ≤ horizon in
     let first : now.at.0 + all_left old ≤ horizon =
     All-head (InTime (all_left old)) (now, event) entries next.holds.bounds.each in
@@ -70,13 +72,51 @@ in-time {T} {key} {wait} {network} {releases} {old} {now} {event} {entries} new 
     let same : new.last.at.0 ≡ now.at.0 = ap (λ (m : Moment). m.at.0) last in
     record {
       last = omega arith;
-      each = All-append (InTime (all_left new)) more entries (λ k d h. omega (arith, each k d h))
-          (λ k d h. omega (arith, others k d h));
+      each = All-append (InTime (all_left new)) more entries each (λ k d h. omega (arith, others k d h));
+      ends = ends;
     }
 
--- a move of a frame, which takes no more than before, and whose entry goes no further
+-- they hold of entries that go no further than the next event
+near-entries : {T : Type 0} {key : T → ℕ → ℕ → ℕ} {wait : ℕ → ℕ → ℕ} {network : DeclaredNetwork}
+    {releases : List Release} {old : Course T} {now : Moment} {event : Event} {entries : List (Moment × Event)}
+    (new : Course T) (more : List (Moment × Event)) (was is : ℕ)
+    → IsNext key wait network releases old now event entries → all_left new + was ≤ all_left old + is
+    → All (λ (x : Moment × Event). x.0.at.0 + is ≤ now.at.0 + was) more
+    → All (λ (x : Moment × Event). x.0.at.0 + all_left new ≤ horizon) more
+near-entries {T} {key} {wait} {network} {releases} {old} {now} {event} {entries} new more was is next moved each k d h =
+    let first : now.at.0 + all_left old ≤ horizon =
+    All-head (λ (x : Moment × Event). x.0.at.0 + all_left old ≤ horizon) (now, event) entries
+    next.holds.bounds.each in
+    omega (arith, each k d h)
+
+-- and of ports that stay as they were
+same-ports : {T : Type 0} {key : T → ℕ → ℕ → ℕ} {wait : ℕ → ℕ → ℕ} {network : DeclaredNetwork}
+    {releases : List Release} {old : Course T} {now : Moment} {event : Event} {entries : List (Moment × Event)}
+    (new : Course T) → IsNext key wait network releases old now event entries → new.ports ≡ old.ports
+    → all_left new ≤ all_left old → All (λ (s : PortState T). last_end s.sent + all_left new ≤ horizon) new.ports
+same-ports {T} {key} {wait} {network} {releases} {old} new next same less =
+    subst (All (λ (s : PortState T). last_end s.sent + all_left new ≤ horizon)) (sym same)
+    (λ k d h. omega (arith, next.holds.bounds.ends k d h))
+
+-- also where one stands differently, of which they hold
+set-ports : {T : Type 0} {key : T → ℕ → ℕ → ℕ} {wait : ℕ → ℕ → ℕ} {network : DeclaredNetwork}
+    {releases : List Release} {old : Course T} {now : Moment} {event : Event} {entries : List (Moment × Event)}
+    (new : Course T) (port : ℕ) (standing : PortState T) → IsNext key wait network releases old now event entries
+    → new.ports ≡ set old.ports port standing → all_left new ≤ all_left old
+    → last_end standing.sent + all_left new ≤ horizon
+    → All (λ (s : PortState T). last_end s.sent + all_left new ≤ horizon) new.ports
+set-ports {T} {key} {wait} {network} {releases} {old} new port standing next same less ends =
+    let InTime : PortState T → Type 0 = λ (s : PortState T). last_end s.sent + all_left new ≤ horizon in
+    subst (All InTime) (sym same) (λ k d h.
+    at-set InTime old.ports port standing k d ends (omega (
+      arith,
+      next.holds.bounds.ends k d (omega (arith, h, length-set old.ports port standing)),
+    )))
+
+-- a move of a frame that is sent, which takes no more than before but for its transmission, and whose entry goes no
+-- further
 record TakesLess (now : ℕ) (was : Stage) (p : Progress) (m : Move) : Type 0 where
-  time : most_left (m.stage, m.progress) ≤ most_left (was, p)
+  moves : most_left (m.stage, m.progress) + most_sending ≤ most_left (was, p)
   each : All (λ (x : Moment × Event). x.0.at.0 + most_left (m.stage, m.progress) ≤ now + most_left (was, p)) m.entries
   events : events_left (m.stage, m.progress) < events_left (was, p)
 
@@ -181,10 +221,14 @@ comes-bounds {T} {key} {wait} {network} {releases} {old} {new} {now} {row} {entr
     let takes : ComesLess now.at p step.verdict =
     All-head (λ (n : ℕ). ComesLess now.at (progress_at old.records n) step.verdict) row (rows_begun network old row)
     each in
-    in-time new (due_entries due rows) was is next (ap (λ (c : Course T). c.last) step.becomes)
-    (comes-left most_left next step (λ k d h. (each k d h).apart)) takes.time
+    let left : all_left new + was ≤ all_left old + is =
+    comes-left most_left next step (λ k d h. (each k d h).apart) in
+    let less : all_left new ≤ all_left old = omega (arith, left, takes.time) in
+    in-time new (due_entries due rows) next (ap (λ (c : Course T). c.last) step.becomes) less
+    (near-entries new (due_entries due rows) was is next left
     (of-due (λ (x : Moment × Event). x.0.at.0 + is ≤ now.at.0 + was) due rows
-    (λ e at k d h. takes.due e (sym step.brings ∙ at)))
+    (λ e at k d h. takes.due e (sym step.brings ∙ at))))
+    (same-ports new next (ap (λ (c : Course T). c.ports) step.becomes) less)
 
 -- and fewer steps are left
 pub comes-less : {T : Type 0} {key : T → ℕ → ℕ → ℕ} {wait : ℕ → ℕ → ℕ} {network : DeclaredNetwork}
@@ -214,15 +258,13 @@ offered-left {T} {key} {wait} {network} {releases} {old} {new} {now} {row} f nex
     (stage-within old row (Due now.at) even was (λ e. cc)) was (ap (λ (c : Course T). c.stages) step.becomes)
     (ap (λ (c : Course T). c.records) step.becomes)
 
--- a selection that it brings is now
-offered-now : (now : Moment) (was is port : ℕ) (t : Turn) → is ≤ was
-    → All (λ (x : Moment × Event). x.0.at.0 + is ≤ now.at.0 + was) (selections_once_offered port t now.at)
-offered-now now was is port Resting less =
-    All-cons (λ (x : Moment × Event). x.0.at.0 + is ≤ now.at.0 + was)
-    (selection_moment port now.at, Selection port) [] (omega arith)
-    (All-nil (λ (x : Moment × Event). x.0.at.0 + is ≤ now.at.0 + was))
-offered-now now was is port (Selecting at) less = All-nil (λ (x : Moment × Event). x.0.at.0 + is ≤ now.at.0 + was)
-offered-now now was is port Occupied less = All-nil (λ (x : Moment × Event). x.0.at.0 + is ≤ now.at.0 + was)
+-- a selection that it brings is in time
+offered-in_time : (left port : ℕ) (at : Ps) (t : Turn) → (t ≡ Resting → at.0 + left ≤ horizon)
+    → All (λ (x : Moment × Event). x.0.at.0 + left ≤ horizon) (selections_once_offered port t at)
+offered-in_time left port at Resting in_time =
+    All-cons (λ (x : Moment × Event). x.0.at.0 + left ≤ horizon) (selection_moment port at, Selection port) []
+    (in_time refl) (All-nil (λ (x : Moment × Event). x.0.at.0 + left ≤ horizon))
+offered-in_time left port at (Selecting time) in_time = All-nil (λ (x : Moment × Event). x.0.at.0 + left ≤ horizon)
 
 -- the bounds hold after a frame became eligible
 pub offered-bounds : {T : Type 0} {key : T → ℕ → ℕ → ℕ} {wait : ℕ → ℕ → ℕ} {network : DeclaredNetwork}
@@ -230,13 +272,23 @@ pub offered-bounds : {T : Type 0} {key : T → ℕ → ℕ → ℕ} {wait : ℕ 
     → IsNext key wait network releases old now (Eligibility row) entries
     → BecomesEligible key network old new now row more → EndsInTime new (more ++ entries)
 offered-bounds {T} {key} {wait} {network} {releases} {old} {new} {now} {row} {entries} {more} next step =
-    let p : Progress = progress_at old.records row in
-    let was : ℕ = most_left (Due now.at, p) in
-    let is : ℕ = most_left (Waiting, p) in
-    in-time new more was is next (ap (λ (c : Course T). c.last) step.becomes)
-    (omega (arith, offered-left most_left next step)) (omega arith)
-    (subst (λ (es : List (Moment × Event)). All (λ (x : Moment × Event). x.0.at.0 + is ≤ now.at.0 + was) es)
-    (sym step.brings) (offered-now now was is step.port (turn_at old step.port) (omega arith)))
+    let s : PortState T = port_state_at old step.port in
+    let InTime : Moment × Event → Type 0 = λ (x : Moment × Event). x.0.at.0 + all_left new ≤ horizon in
+    let less : all_left new ≤ all_left old = omega (arith, offered-left most_left next step) in
+    let first : now.at.0 + all_left old ≤ horizon =
+    All-head (λ (x : Moment × Event). x.0.at.0 + all_left old ≤ horizon) (now, Eligibility row) entries
+    next.holds.bounds.each in
+    let within : step.port < length old.ports = omega (arith, offered-within next step, next.holds.shape.ports) in
+    let ends : last_end s.sent + all_left old ≤ horizon =
+    next.holds.bounds.ends step.port (opened 0 [] old.tie) within in
+    let same : last_end step.standing.sent ≡ last_end s.sent =
+    ap (λ (t : PortState T). last_end t.sent) step.rest in
+    in-time new more next (ap (λ (c : Course T). c.last) step.becomes) less
+    (subst (All InTime) (sym step.brings)
+    (offered-in_time (all_left new) step.port step.at (turn_at old step.port)
+    (λ rests. (let at = offered-at next step rests in omega (arith, at, first, ends, less)))))
+    (set-ports new step.port step.standing next (ap (λ (c : Course T). c.ports) step.becomes) less
+    (omega (arith, same, ends, less)))
 
 -- and fewer steps are left
 pub offered-less : {T : Type 0} {key : T → ℕ → ℕ → ℕ} {wait : ℕ → ℕ → ℕ} {network : DeclaredNetwork}
@@ -249,15 +301,13 @@ offered-less next step = let left = offered-left events_left next step in omega 
 selects-left : {T : Type 0} {key : T → ℕ → ℕ → ℕ} {wait : ℕ → ℕ → ℕ} {network : DeclaredNetwork}
     {releases : List Release} {old new : Course T} {now : Moment} {port : ℕ} {entries more : List (Moment × Event)}
     (f : Stage × Progress → ℕ) → IsNext key wait network releases old now (Selection port) entries
-    → (step : Selects key network old new now port more)
+    → (step : Selects key wait network old new now port more)
     → sum_by f (zip new.stages new.records) + f (Waiting, progress_at old.records step.row)
-    ≡ sum_by f (zip old.stages old.records)
-    + f (Sending step.end, with_sent (progress_at old.records step.row) now.at step.end)
+    ≡ sum_by f (zip old.stages old.records) + f (step.move.stage, step.move.progress)
 selects-left {T} {key} {wait} {network} {releases} {old} {new} {now} {port} f next step =
     let was : stage_at old step.row ≡ Waiting = selects-stage next step in
     let even = next.holds.shape.stages in
-    left-after f old new step.row Waiting (Sending step.end)
-    (with_sent (progress_at old.records step.row) now.at step.end) even
+    left-after f old new step.row Waiting step.move.stage step.move.progress even
     (stage-within old step.row Waiting even was (λ e. cc)) was (ap (λ (c : Course T). c.stages) step.becomes)
     (ap (λ (c : Course T). c.records) step.becomes)
 
@@ -267,191 +317,129 @@ sent-ports p start end =
     ap (λ (n : ℕ). p.room - n)
     (length-set p.hops (length p.hops - 1) (record (last_hop p) { sent = Some (start, end) }))
 
--- a transmission takes no more than the bound
-sending-most : (ps octets : ℕ) → ps ≤ 100000 → octets ≤ 2000 → ps * bits_of octets ≤ most_sending
-sending-most ps octets rate size =
-    let bits : bits_of octets ≤ 16160 = omega arith in
-    omega (arith, mul-le-mul_right (bits_of octets) rate)
-
--- so the transmission that starts ends within it
-selects-soon : {T : Type 0} {key : T → ℕ → ℕ → ℕ} {wait : ℕ → ℕ → ℕ} {network : DeclaredNetwork}
+-- it arrives within the latency of its port
+arrives-soon : {T : Type 0} {key : T → ℕ → ℕ → ℕ} {wait : ℕ → ℕ → ℕ} {network : DeclaredNetwork}
     {releases : List Release} {old new : Course T} {now : Moment} {port : ℕ} {entries more : List (Moment × Event)}
-    → IsNext key wait network releases old now (Selection port) entries
-    → (step : Selects key network old new now port more)
-    → step.end.0 ≤ now.at.0 + most_sending
-selects-soon {T} {key} {wait} {network} {releases} {old} {new} {now} {port} next step =
-    let held = selects-held next step in
-    let offer : Offer = step.starts.started in
-    let size : offer.octets ≤ 2000 = omega (
-      arith,
-      (next.holds.frames held.row held.within).octets.most,
-      ap (λ (o : Offer). o.octets) held.same,
-    ) in
-    let rate = (next-port next port (selecting-within next)).rate in
-    omega (
-      arith,
-      selects-end next step,
-      sending-most (port_at network.topology.ports port).ps_per_bit offer.octets rate.most size,
-    )
-
--- the bounds hold after a selection
-pub selects-bounds : {T : Type 0} {key : T → ℕ → ℕ → ℕ} {wait : ℕ → ℕ → ℕ} {network : DeclaredNetwork}
-    {releases : List Release} {old new : Course T} {now : Moment} {port : ℕ} {entries more : List (Moment × Event)}
-    → IsNext key wait network releases old now (Selection port) entries → Selects key network old new now port more
-    → EndsInTime new (more ++ entries)
-selects-bounds {T} {key} {wait} {network} {releases} {old} {new} {now} {port} {entries} {more} next step =
-    let p : Progress = progress_at old.records step.row in
-    let q : Progress = with_sent p now.at step.end in
-    let was : ℕ = most_left (Waiting, p) in
-    let is : ℕ = most_left (Sending step.end, q) in
-    let same : ports_left q ≡ ports_left p = sent-ports p now.at step.end in
-    let soon : step.end.0 ≤ now.at.0 + most_sending = selects-soon next step in
-    let Near : Moment × Event → Type 0 = λ (x : Moment × Event). x.0.at.0 + is ≤ now.at.0 + was in
-    in-time new more was is next (ap (λ (c : Course T). c.last) step.becomes)
-    (omega (arith, selects-left most_left next step)) (omega arith)
-    (subst (λ (es : List (Moment × Event)). All Near es) (sym step.brings)
-    (All-cons Near (end_moment step.row step.end, End step.row) [] (omega arith) (All-nil Near)))
-
--- and fewer steps are left
-pub selects-less : {T : Type 0} {key : T → ℕ → ℕ → ℕ} {wait : ℕ → ℕ → ℕ} {network : DeclaredNetwork}
-    {releases : List Release} {old new : Course T} {now : Moment} {port : ℕ} {entries more : List (Moment × Event)}
-    → IsNext key wait network releases old now (Selection port) entries → Selects key network old new now port more
-    → steps_left new < steps_left old
-selects-less {T} {key} {wait} {network} {releases} {old} {new} {now} {port} next step =
-    let p : Progress = progress_at old.records step.row in
-    let same = sent-ports p now.at step.end in
-    let left = selects-left events_left next step in
-    omega arith
-
--- a frame that was sent arrives within the latency of its port
-ends-soon : {T : Type 0} {key : T → ℕ → ℕ → ℕ} {wait : ℕ → ℕ → ℕ} {network : DeclaredNetwork}
-    {releases : List Release} {old new : Course T} {now : Moment} {row : ℕ} {entries more : List (Moment × Event)}
-    → WaitsWithin wait → IsNext key wait network releases old now (End row) entries
-    → (step : Ends key wait network old new now row more) → step.arrival.0 ≤ now.at.0 + most_latency
-ends-soon {T} {key} {wait} {network} {releases} {old} {new} {now} {row} within next step =
-    let place : ℕ = place_at network old row in
-    let below : place < length network.topology.ports = ending-port next in
-    let port : Port = port_at network.topology.ports place in
-    let here = ends-here next step in
+    → WaitsWithin wait → IsNext key wait network releases old now (Selection port) entries
+    → (step : Selects key wait network old new now port more) → step.arrival.0 ≤ step.end.0 + most_latency
+arrives-soon {T} {key} {wait} {network} {releases} {old} {new} {now} {port} within next step =
+    let below : port < length network.topology.ports = selecting-within next in
+    let link : Port = port_at network.topology.ports port in
+    let here = selects-crossing next step in
     let x : Crossing = here.0 in
-    let Within : Crossing → Type 0 = ArrivesWithin port.earliest.0 port.latency.0 in
-    let before : List Crossing = crossings_so_far network old place in
-    let after : List Crossing = crossings_so_far network new place in
+    let Within : Crossing → Type 0 = ArrivesWithin link.earliest.0 link.latency.0 in
+    let before : List Crossing = crossings_so_far network old port in
+    let after : List Crossing = crossings_so_far network new port in
     let arrives : Within x = All-head Within x before
     (All-permutation Within after (x ∷ before) (IsPermutation-sym (x ∷ before) after here.2)
-    (ends-paces within next step place below).rule.within) in
-    omega (arith, arrives.latest, here.1.ends, here.1.arrives, (next-port next place below).latency)
+    (selects-paces within next step port below).rule.within) in
+    omega (arith, arrives.latest, here.1.ends, here.1.arrives, (next-port next port below).latency)
 
--- and the move takes less than the transmission did
-leaves-less : (row : ℕ) (p : Progress) (now at : Ps) (last : Bool) → at.0 ≤ now.0 + most_latency
-    → TakesLess now.0 (Sending now) p (left_by row (with_ending p (Sink at)) p at last)
-leaves-less row p now at true soon = record {
-  time = omega arith;
-  each = All-nil (λ (x : Moment × Event). x.0.at.0 + 0 ≤ now.0 + most_left (Sending now, p));
+-- so the move takes less than the frame did that waited
+leaves-less : (row : ℕ) (p q : Progress) (now : ℕ) (at : Ps) (last : Bool) → ports_left q ≡ ports_left p
+    → at.0 ≤ now + most_sending + most_latency
+    → TakesLess now Waiting p (left_by row (with_ending q (Sink at)) q at last)
+leaves-less row p q now at true same soon = record {
+  moves = omega arith;
+  each = All-nil (λ (x : Moment × Event). x.0.at.0 + 0 ≤ now + most_left (Waiting, p));
   events = omega arith;
 }
-leaves-less row p now at false soon =
-    let Near : Moment × Event → Type 0 = λ (x : Moment × Event). x.0.at.0 + most_left (Coming at, p)
-    ≤ now.0 + most_left (Sending now, p) in
+leaves-less row p q now at false same soon =
+    let Near : Moment × Event → Type 0 = λ (x : Moment × Event). x.0.at.0 + most_left (Coming at, q)
+    ≤ now + most_left (Waiting, p) in
     record {
-      time = omega arith;
+      moves = omega arith;
       each = All-cons Near (arrival_moment row at, Arrival row) [] (omega arith) (All-nil Near);
       events = omega arith;
     }
 
--- and fewer steps are left of it
-leaves-fewer : (row : ℕ) (p : Progress) (now at : Ps) (last : Bool)
-    → events_left (
-      (left_by row (with_ending p (Sink at)) p at last).stage,
-      (left_by row (with_ending p (Sink at)) p at last).progress,
-    ) < events_left (Sending now, p)
-leaves-fewer row p now at true = omega arith
-leaves-fewer row p now at false = omega arith
+-- so does the next selection
+selects-takes : {T : Type 0} {key : T → ℕ → ℕ → ℕ} {wait : ℕ → ℕ → ℕ} {network : DeclaredNetwork}
+    {releases : List Release} {old new : Course T} {now : Moment} {port : ℕ} {entries more : List (Moment × Event)}
+    → WaitsWithin wait → IsNext key wait network releases old now (Selection port) entries
+    → (step : Selects key wait network old new now port more)
+    → TakesLess now.at.0 Waiting (progress_at old.records step.row) step.move
+selects-takes {T} {key} {wait} {network} {releases} {old} {new} {now} {port} within next step =
+    let p : Progress = progress_at old.records step.row in
+    let q : Progress = with_sent p now.at step.end in
+    subst (TakesLess now.at.0 Waiting p) (sym step.is)
+    (leaves-less step.row p q now.at.0 step.arrival (length q.hops == length (path_of network q))
+    (sent-ports p now.at step.end) (omega (arith, arrives-soon within next step, selects-soon next step)))
 
--- so the move of the frame whose transmission ends takes less
-ends-takes : {T : Type 0} {key : T → ℕ → ℕ → ℕ} {wait : ℕ → ℕ → ℕ} {network : DeclaredNetwork}
-    {old new : Course T} {now : Moment} {row : ℕ} {more : List (Moment × Event)}
-    (step : Ends key wait network old new now row more) → step.arrival.0 ≤ now.at.0 + most_latency
-    → TakesLess now.at.0 (Sending now.at) (progress_at old.records row) step.move
-ends-takes {T} {key} {wait} {network} {old} {new} {now} {row} step soon =
-    let p : Progress = progress_at old.records row in
-    subst (TakesLess now.at.0 (Sending now.at) p) (sym step.is)
-    (leaves-less row p now.at step.arrival (length p.hops == length (path_of network p)) soon)
-
--- what is left after the end of a transmission
-ends-left : {T : Type 0} {key : T → ℕ → ℕ → ℕ} {wait : ℕ → ℕ → ℕ} {network : DeclaredNetwork}
-    {releases : List Release} {old new : Course T} {now : Moment} {row : ℕ} {entries more : List (Moment × Event)}
-    (f : Stage × Progress → ℕ) → IsNext key wait network releases old now (End row) entries
-    → (step : Ends key wait network old new now row more)
-    → sum_by f (zip new.stages new.records) + f (Sending now.at, progress_at old.records row)
-    ≡ sum_by f (zip old.stages old.records) + f (step.move.stage, step.move.progress)
-ends-left {T} {key} {wait} {network} {releases} {old} {new} {now} {row} f next step =
-    let was = next-sending next in
-    let even = next.holds.shape.stages in
-    left-after f old new row (Sending now.at) step.move.stage step.move.progress even
-    (stage-within old row (Sending now.at) even was (λ e. cc)) was (ap (λ (c : Course T). c.stages) step.becomes)
-    (ap (λ (c : Course T). c.records) step.becomes)
-
--- a port that is free selects at once, where it holds a frame
-selects-now : {T : Type 0} (standing : PortState T) (turn : Turn) (now port was is : ℕ) → IsTurn standing turn
-    → last_end standing.sent ≤ now → All (λ (o : Offer). o.eligible.0 ≤ now) standing.held → is ≤ was
-    → All (λ (x : Moment × Event). x.0.at.0 + is ≤ now + was) (selections port turn)
-selects-now standing Resting now port was is next free eligible less =
-    All-nil (λ (x : Moment × Event). x.0.at.0 + is ≤ now + was)
-selects-now standing (Selecting at) now port was is next free eligible less =
-    let one = next.1.reached.eligible in
-    let may : MaySend standing.held standing.sent now = record {
+-- a port that holds frames selects the next one once its transmission has ended
+selects-again : {T : Type 0} (standing : PortState T) (turn : Turn) (end port : ℕ) → IsTurn standing turn
+    → last_end standing.sent ≤ end → All (λ (o : Offer). o.eligible.0 ≤ end) standing.held
+    → All (λ (x : Moment × Event). x.0.at.0 ≤ end) (selections port turn)
+selects-again standing Resting end port next free eligible = All-nil (λ (x : Moment × Event). x.0.at.0 ≤ end)
+selects-again standing (Selecting at) end port next free eligible =
+    let one = next.reached.eligible in
+    let may : MaySend standing.held standing.sent end = record {
       free = free;
       eligible = (
         one.0,
         one.1,
         one.2,
         one.3,
-        subst (λ (o : Offer). o.eligible.0 ≤ now) one.3 (eligible one.0 one.1 one.2),
+        subst (λ (o : Offer). o.eligible.0 ≤ end) one.3 (eligible one.0 one.1 one.2),
       );
     } in
-    let soon : at.0 ≤ now = next.1.first now may in
-    All-cons (λ (x : Moment × Event). x.0.at.0 + is ≤ now + was) (selection_moment port at, Selection port) []
-    (omega arith) (All-nil (λ (x : Moment × Event). x.0.at.0 + is ≤ now + was))
-selects-now standing Occupied now port was is next free eligible less =
-    All-nil (λ (x : Moment × Event). x.0.at.0 + is ≤ now + was)
+    All-cons (λ (x : Moment × Event). x.0.at.0 ≤ end) (selection_moment port at, Selection port) []
+    (next.first end may) (All-nil (λ (x : Moment × Event). x.0.at.0 ≤ end))
 
--- the bounds hold after the end of a transmission
-pub ends-bounds : {T : Type 0} {key : T → ℕ → ℕ → ℕ} {wait : ℕ → ℕ → ℕ} {network : DeclaredNetwork}
-    {releases : List Release} {old new : Course T} {now : Moment} {row : ℕ} {entries more : List (Moment × Event)}
-    → WaitsWithin wait → IsNext key wait network releases old now (End row) entries
-    → Ends key wait network old new now row more → EndsInTime new (more ++ entries)
-ends-bounds {T} {key} {wait} {network} {releases} {old} {new} {now} {row} {entries} {more} within next step =
-    let p : Progress = progress_at old.records row in
-    let was : ℕ = most_left (Sending now.at, p) in
-    let is : ℕ = most_left (step.move.stage, step.move.progress) in
-    let takes = ends-takes step (ends-soon within next step) in
-    let Near : Moment × Event → Type 0 = λ (x : Moment × Event). x.0.at.0 + is ≤ now.at.0 + was in
-    let Held : PortState T → Type 0 = λ (s : PortState T). (last_end s.sent ≤ now.at.0)
-    × All (λ (o : Offer). o.eligible.0 ≤ now.at.0) s.held in
-    let place : ℕ = place_at network old row in
+-- all frames that it holds were eligible by now
+still-eligible : {T : Type 0} {key : T → ℕ → ℕ → ℕ} {wait : ℕ → ℕ → ℕ} {network : DeclaredNetwork}
+    {releases : List Release} {old new : Course T} {now : Moment} {port : ℕ} {entries more : List (Moment × Event)}
+    → IsNext key wait network releases old now (Selection port) entries
+    → (step : Selects key wait network old new now port more)
+    → All (λ (o : Offer). o.eligible.0 ≤ now.at.0) step.standing.held
+still-eligible {T} {key} {wait} {network} {releases} {old} {new} {now} {port} next step =
+    let s : PortState T = port_state_at old port in
+    let Eligible : Offer → Type 0 = λ (o : Offer). o.eligible.0 ≤ now.at.0 in
     let reached : old.last.at.0 ≤ now.at.0 = (next-reached next).time in
-    let ended : last_end (port_state_at old place).sent ≡ now.at.0 = (ending-sends next).end in
-    let eligible = (next.holds.ports place (ending-port next)).times.eligible in
-    let known : Held (port_state_at old place) = (omega arith, λ k d h. omega (arith, eligible k d h)) in
-    let freed : Held (record (port_state_at old step.port) { is_sending = false }) =
-    subst (λ (port : ℕ). Held (port_state_at old port)) step.place known in
-    let held : Held step.standing = subst Held (sym step.free) freed in
-    in-time new more was is next (ap (λ (c : Course T). c.last) step.becomes)
-    (omega (arith, ends-left most_left next step)) takes.time
+    let eligible = (next.holds.ports port (selecting-within next)).times.eligible in
+    let before : All Eligible s.held = λ k d h. omega (arith, eligible k d h) in
+    subst (λ (t : PortState T). All Eligible t.held) (sym step.finished)
+    (All-tail Eligible step.starts.started step.sending.held
+    (All-permutation Eligible s.held (step.starts.started ∷ step.sending.held) step.starts.held before))
+
+-- the bounds hold after a selection
+pub selects-bounds : {T : Type 0} {key : T → ℕ → ℕ → ℕ} {wait : ℕ → ℕ → ℕ} {network : DeclaredNetwork}
+    {releases : List Release} {old new : Course T} {now : Moment} {port : ℕ} {entries more : List (Moment × Event)}
+    → WaitsWithin wait → IsNext key wait network releases old now (Selection port) entries
+    → Selects key wait network old new now port more → EndsInTime new (more ++ entries)
+selects-bounds {T} {key} {wait} {network} {releases} {old} {new} {now} {port} {entries} {more} within next step =
+    let p : Progress = progress_at old.records step.row in
+    let was : ℕ = most_left (Waiting, p) in
+    let is : ℕ = most_left (step.move.stage, step.move.progress) in
+    let takes = selects-takes within next step in
+    let Near : Moment × Event → Type 0 = λ (x : Moment × Event). x.0.at.0 + is ≤ now.at.0 + was in
+    let later : now.at.0 ≤ step.end.0 = omega (arith, step.starts.ends) in
+    let soon : step.end.0 ≤ now.at.0 + most_sending = selects-soon next step in
+    let last : last_end step.standing.sent ≡ step.end.0 = selects-last step in
+    let move : is + most_sending ≤ was = takes.moves in
+    let eligible = still-eligible next step in
+    let again : All (λ (x : Moment × Event). x.0.at.0 ≤ step.end.0) (selections port step.turn) =
+    selects-again step.standing step.turn step.end.0 port step.next (omega arith)
+    (λ k d h. omega (arith, eligible k d h, later)) in
+    let left : all_left new + was ≡ all_left old + is = selects-left most_left next step in
+    let less : all_left new ≤ all_left old = omega (arith, left, move) in
+    let first : now.at.0 + all_left old ≤ horizon =
+    All-head (λ (x : Moment × Event). x.0.at.0 + all_left old ≤ horizon) (now, Selection port) entries
+    next.holds.bounds.each in
+    in-time new more next (ap (λ (c : Course T). c.last) step.becomes) less
+    (near-entries new more was is next (omega (arith, left))
     (subst (λ (es : List (Moment × Event)). All Near es) (sym step.brings)
-    (All-append Near step.move.entries (selections step.port step.turn) takes.each
-    (selects-now step.standing step.turn now.at.0 step.port was is step.next held.0 held.1 takes.time)))
+    (All-append Near step.move.entries (selections port step.turn) takes.each
+    (λ k d h. omega (arith, again k d h, soon, move)))))
+    (set-ports new port step.standing next (ap (λ (c : Course T). c.ports) step.becomes) less
+    (omega (arith, last, soon, left, move, first)))
 
 -- and fewer steps are left
-pub ends-less : {T : Type 0} {key : T → ℕ → ℕ → ℕ} {wait : ℕ → ℕ → ℕ} {network : DeclaredNetwork}
-    {releases : List Release} {old new : Course T} {now : Moment} {row : ℕ} {entries more : List (Moment × Event)}
-    → IsNext key wait network releases old now (End row) entries → Ends key wait network old new now row more
-    → steps_left new < steps_left old
-ends-less {T} {key} {wait} {network} {releases} {old} {new} {now} {row} next step =
-    let p : Progress = progress_at old.records row in
-    let left = ends-left events_left next step in
-    let fewer : events_left (step.move.stage, step.move.progress) < events_left (Sending now.at, p) =
-    subst (λ (m : Move). events_left (m.stage, m.progress) < events_left (Sending now.at, p)) (sym step.is)
-    (leaves-fewer row p now.at step.arrival (length p.hops == length (path_of network p))) in
-    omega arith
+pub selects-less : {T : Type 0} {key : T → ℕ → ℕ → ℕ} {wait : ℕ → ℕ → ℕ} {network : DeclaredNetwork}
+    {releases : List Release} {old new : Course T} {now : Moment} {port : ℕ} {entries more : List (Moment × Event)}
+    → WaitsWithin wait → IsNext key wait network releases old now (Selection port) entries
+    → Selects key wait network old new now port more → steps_left new < steps_left old
+selects-less {T} {key} {wait} {network} {releases} {old} {new} {now} {port} within next step =
+    let left = selects-left events_left next step in
+    let fewer = (selects-takes within next step).events in
+    omega (arith, left, fewer)

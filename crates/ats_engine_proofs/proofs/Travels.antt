@@ -1,18 +1,15 @@
 -- What each step does to what is projected from the legs of the run so far.
-use Rattle.std.proofs.Common.{◌≡◌, ◌≢◌, ℕ, ◌+◌, ◌*◌, ◌<◌, ◌≤◌, Bool, true, false, List, [], ◌∷◌, ◌++◌, length, get_or}
+use Rattle.std.proofs.Common.{◌≡◌, ◌≢◌, ℕ, ◌+◌, ◌*◌, ◌<◌, Bool, true, false, List, [], ◌∷◌, ◌++◌, length, get_or}
 use Rattle.std.proofs.Common.{All, IsPermutation, Some, refl, sym, ap, ◌∙◌, subst, inl, inr, arith}
-use Rattle.std.specs.Prelude.{◌==◌, if◌then◌else◌, AllPairs, Option, ◌⊎◌}
-use Rattle.std.specs.List.{Contains, flat_map, zip}
-use Rattle.std.proofs.lemmas.Bool.{cases_eq, cases_lt, eqb-true}
-use Rattle.std.proofs.lemmas.List.{get_or_default}
-use Rattle.std.proofs.lemmas.List.Elements.{All-head, All-tail, All-weaker, All-filter, filter_passes}
-use Rattle.std.proofs.lemmas.List.Elements.{All-contains_itself}
+use Rattle.std.specs.Prelude.{◌==◌, if◌then◌else◌, Option, ◌⊎◌}
+use Rattle.std.specs.List.{flat_map, zip}
+use Rattle.std.proofs.lemmas.Bool.{cases_lt}
+use Rattle.std.proofs.lemmas.List.Elements.{All-head, All-tail}
 use Rattle.std.proofs.lemmas.List.Sorted.{All-permutation}
-use Rattle.std.proofs.lemmas.Slice.Zip.{length-zip}
 use Rattle.ats_facts.proofs.Lists.{pairs_head}
 use Rattle.ats_num.specs.declared.time.Ps.{Ps}
 use Rattle.ats_num.specs.Wire.{bits_of}
-use Rattle.ats_network.specs.Network.{DeclaredNetwork, IsNetwork, senders_of}
+use Rattle.ats_network.specs.Network.{DeclaredNetwork, senders_of}
 use Rattle.ats_network.specs.Sender.{Sender}
 use Rattle.ats_network.specs.Class.{class_at}
 use Rattle.ats_group.specs.declared.verdict.Verdict.{Verdict}
@@ -26,40 +23,38 @@ use Rattle.ats_trace.specs.declared.journey.Ending.{Ending}
 use Rattle.ats_trace.specs.declared.journey.Ending.TheVariants.{Sink, Discard}
 use Rattle.ats_trace.specs.HopRecord.{HopRecord}
 use Rattle.ats_trace.specs.declared.journey.Release.{Release}
-use Rattle.ats_run_records.specs.Progress.{Progress, no_progress, progress_at, last_hop, no_hop, with_hop, with_sent}
+use Rattle.ats_run_records.specs.Progress.{Progress, progress_at, last_hop, no_hop, with_hop, with_sent}
 use Rattle.ats_run_records.specs.Progress.{with_ending}
 use Rattle.ats_engine_steps.specs.Course.{Course, place_at, place_of, stage_at, sender_of, path_of, offer_at, offer_of}
 use Rattle.ats_engine_steps.specs.Course.{eligibility_of, ending_by, leg_hops, leg_crossings, leg_handed, sent_so_far}
 use Rattle.ats_engine_steps.specs.Course.{crossings_so_far, handed_so_far}
 use Rattle.ats_engine_steps.specs.Entries.{arrival_moment}
-use Rattle.ats_engine_steps.specs.Frames.{IsFrame, Goes, IsSent, IsUnsent, IsSentUntil}
+use Rattle.ats_engine_steps.specs.Frames.{IsFrame, Goes, IsSent, IsUnsent}
 use Rattle.ats_engine_steps.specs.Ports.{port_state_at, IsHeld}
-use Rattle.ats_engine_steps.specs.Steps.{Comes, BecomesEligible, Selects, Ends, verdict_now, class_behind, came}
+use Rattle.ats_engine_steps.specs.Steps.{Comes, BecomesEligible, Selects, verdict_now, class_behind, came}
 use Rattle.ats_engine_steps.specs.Steps.{IsLegAt, Move, set_each, stage_by}
 use Rattle.ats_engine_steps.specs.declared.event.Event.{Event}
-use Rattle.ats_engine_steps.specs.declared.event.Event.TheVariants.{End, Arrival, Eligibility, Selection}
+use Rattle.ats_engine_steps.specs.declared.event.Event.TheVariants.{Arrival, Eligibility, Selection}
 use Rattle.ats_engine_steps.specs.declared.stage.Stage.{Stage}
-use Rattle.ats_engine_steps.specs.declared.stage.Stage.TheVariants.{Coming, Due, Waiting, Sending, Over}
+use Rattle.ats_engine_steps.specs.declared.stage.Stage.TheVariants.{Coming, Due, Waiting, Over}
 use Rattle.ats_engine_proofs.specs.Next.{IsNext, IsArrival, IsCrossing}
 use Rattle.ats_engine_proofs.proofs.Begun.{IsApart, next-or-apart, rows_begun}
-use Rattle.ats_engine_proofs.proofs.Gathered.{gather-all, hops_at, crossings_at, handed_in, sent_part, crossings_part}
+use Rattle.ats_engine_proofs.proofs.Gathered.{hops_at, crossings_at, handed_in, sent_part, crossings_part}
 use Rattle.ats_engine_proofs.proofs.Gathered.{handed_part, sent-gathered, crossed-gathered, handed_on-gathered}
-use Rattle.ats_engine_proofs.proofs.LegPorts.{leg-apart}
 use Rattle.ats_engine_proofs.proofs.Parts.{IsLast, transmitted, port-of-last, record-of-last, set-last}
 use Rattle.ats_engine_proofs.proofs.Placed.{stands-at_most}
-use Rattle.ats_engine_proofs.proofs.Rows.{frames-all, named-one, next-apart, place-has, place-names, port-one}
+use Rattle.ats_engine_proofs.proofs.Rows.{frames-all, named-one, next-apart, place-names}
 use Rattle.ats_engine_proofs.proofs.Rows.{release-one, row-is}
 use Rattle.ats_engine_proofs.proofs.Standing.{Advances, Enters, records-same, records-more, both-same, both-more}
-use Rattle.ats_engine_proofs.proofs.Standing.{entered-same, entered-more, entered-both, row-of-both, arriving-within}
-use Rattle.ats_engine_proofs.proofs.Standing.{arriving-frame, due-within, due-frame, ending-within, ending-frame}
+use Rattle.ats_engine_proofs.proofs.Standing.{entered-same, entered-more, entered-both, arriving-within}
+use Rattle.ats_engine_proofs.proofs.Standing.{arriving-frame, due-within, due-frame}
 use Rattle.ats_engine_proofs.proofs.Standing.{selecting-within, stands-split, goes-split}
 use Rattle.ats_engine_proofs.proofs.OwnParts.{pushed, hops_at-more, hops_at-same, crossings_at-more, crossings_at-same}
 use Rattle.ats_engine_proofs.proofs.OwnParts.{handed_in-more, handed_in-same, sent-there, coming-hops, coming-crossings}
 use Rattle.ats_engine_proofs.proofs.OwnParts.{coming-first, coming-handed, selected-hops, selected-crossings}
-use Rattle.ats_engine_proofs.proofs.OwnParts.{selected-handed, ended-crossings, ended-before, crossings-numbered}
-use Rattle.ats_engine_proofs.proofs.OwnParts.{crossings-elsewhere, passed-apart, crossings-of-sent, unmoved-sent}
+use Rattle.ats_engine_proofs.proofs.OwnParts.{selected-handed, sent-crossings, unmoved-sent}
 use Rattle.ats_engine_proofs.proofs.OwnParts.{unmoved-crossings, unmoved-handed}
-use Rattle.ats_engine_proofs.proofs.Stages.{next-coming, next-due, next-sending}
+use Rattle.ats_engine_proofs.proofs.Stages.{next-coming, next-due}
 use Rattle.ats_engine_proofs.proofs.Ways.{stands-some}
 
 -- one element more, in lists that are these
@@ -323,20 +318,45 @@ module _ {T : Type 0} {key : T → ℕ → ℕ → ℕ} {wait : ℕ → ℕ → 
       ∙ records-same (handed_part network other class) (offered-advances next step) refl
       ∙ sym (handed_on-gathered network old other class)
 
+-- a frame that leaves a port for the leg's listener, or else for the next port
+abbrev leaves-if : Bool → ℕ → Progress → Ps → Move
+leaves-if last row p arrival =
+    if last then record { stage = Over; progress = with_ending p (Sink arrival); entries = [] }
+    else record {
+      stage = Coming arrival;
+      progress = p;
+      entries = (arrival_moment row arrival, Arrival row) ∷ [];
+    }
+
+-- counts as sunk when it arrives there, either way
+leaves-crossings : (network : DeclaredNetwork) (last : Bool) (row : ℕ) (p : Progress) (arrival : Ps)
+    → p.ending ≡ Discard
+    → leg_crossings network ((leaves-if last row p arrival).stage, (leaves-if last row p arrival).progress)
+    ≡ crossings_along p.frame p.release (sender_of network p) (path_of network p) p.hops (Sink arrival)
+leaves-crossings network true row p arrival unended = refl
+leaves-crossings network false row p arrival unended = refl
+
+-- and has been sent and handed on as before
+leaves-same : {X : Type 0} (f : Progress → X)
+    → ((p : Progress) (ending : Ending) → f (with_ending p ending) ≡ f p) → (last : Bool) (row : ℕ) (p : Progress)
+    (arrival : Ps) → f (leaves-if last row p arrival).progress ≡ f p
+leaves-same f same true row p arrival = same p (Sink arrival)
+leaves-same f same false row p arrival = refl
+
 module _ {T : Type 0} {key : T → ℕ → ℕ → ℕ} {wait : ℕ → ℕ → ℕ} {network : DeclaredNetwork} {releases : List Release}
     {old new : Course T} {now : Moment} {port : ℕ} {entries more : List (Moment × Event)} where
   -- the frame that a port selects waited there
   pub selects-held : IsNext key wait network releases old now (Selection port) entries
-      → (step : Selects key network old new now port more) → IsHeld network old port step.starts.started
+      → (step : Selects key wait network old new now port more) → IsHeld network old port step.starts.started
   selects-held next step =
-      All-head (IsHeld network old port) step.starts.started step.standing.held
+      All-head (IsHeld network old port) step.starts.started step.sending.held
       (All-permutation (IsHeld network old port) (port_state_at old port).held
-      (step.starts.started ∷ step.standing.held) step.starts.held
+      (step.starts.started ∷ step.sending.held) step.starts.held
       (next.holds.ports port (selecting-within next)).holding.held)
 
   -- along the leg that it and the port name
   pub selects-is : (next : IsNext key wait network releases old now (Selection port) entries)
-      → (step : Selects key network old new now port more) → (selects-held next step).row ≡ step.row
+      → (step : Selects key wait network old new now port more) → (selects-held next step).row ≡ step.row
   selects-is next step =
       let held : IsHeld network old port step.starts.started = selects-held next step in
       let p : Progress = progress_at old.records held.row in
@@ -360,32 +380,32 @@ module _ {T : Type 0} {key : T → ℕ → ℕ → ℕ} {wait : ℕ → ℕ → 
 
   -- which is one of the course
   pub selects-within : IsNext key wait network releases old now (Selection port) entries
-      → (step : Selects key network old new now port more) → step.row < length old.records
+      → (step : Selects key wait network old new now port more) → step.row < length old.records
   selects-within next step =
       subst (λ (n : ℕ). n < length old.records) (selects-is next step) (selects-held next step).within
 
   -- at this stage
   pub selects-stage : IsNext key wait network releases old now (Selection port) entries
-      → (step : Selects key network old new now port more) → stage_at old step.row ≡ Waiting
+      → (step : Selects key wait network old new now port more) → stage_at old step.row ≡ Waiting
   selects-stage next step =
       subst (λ (n : ℕ). stage_at old n ≡ Waiting) (selects-is next step) (selects-held next step).stage
 
   -- at this port
   pub selects-place : IsNext key wait network releases old now (Selection port) entries
-      → (step : Selects key network old new now port more) → place_at network old step.row ≡ port
+      → (step : Selects key wait network old new now port more) → place_at network old step.row ≡ port
   selects-place next step =
       subst (λ (n : ℕ). place_at network old n ≡ port) (selects-is next step) (selects-held next step).place
 
   -- which holds it as it was offered
   pub selects-offer : IsNext key wait network releases old now (Selection port) entries
-      → (step : Selects key network old new now port more) → offer_at network old step.row ≡ step.starts.started
+      → (step : Selects key wait network old new now port more) → offer_at network old step.row ≡ step.starts.started
   selects-offer next step =
       subst (λ (n : ℕ). offer_at network old n ≡ step.starts.started) (selects-is next step)
       (selects-held next step).same
 
   -- and stands so
   pub selects-frame : IsNext key wait network releases old now (Selection port) entries
-      → (step : Selects key network old new now port more)
+      → (step : Selects key wait network old new now port more)
       → IsFrame network old (progress_at old.records step.row) Waiting
   selects-frame next step =
       subst (IsFrame network old (progress_at old.records step.row)) (selects-stage next step)
@@ -393,8 +413,8 @@ module _ {T : Type 0} {key : T → ℕ → ℕ → ℕ} {wait : ℕ → ℕ → 
 
   -- it goes on along this leg
   selects-advances : IsNext key wait network releases old now (Selection port) entries
-      → (step : Selects key network old new now port more)
-      → Advances old new step.row (Sending step.end) (with_sent (progress_at old.records step.row) now.at step.end)
+      → (step : Selects key wait network old new now port more)
+      → Advances old new step.row step.move.stage step.move.progress
   selects-advances next step =
       record {
         within = selects-within next step;
@@ -403,15 +423,15 @@ module _ {T : Type 0} {key : T → ℕ → ℕ → ℕ} {wait : ℕ → ℕ → 
         records = ap (λ (c : Course T). c.records) step.becomes;
       }
 
-  -- with a last record that tells of no transmission yet
+  -- with a last record that told of no transmission yet
   selects-at : IsNext key wait network releases old now (Selection port) entries
-      → (step : Selects key network old new now port more)
+      → (step : Selects key wait network old new now port more)
       → IsLast IsUnsent (path_of network (progress_at old.records step.row)) (progress_at old.records step.row).hops
   selects-at next step =
       stands-split IsUnsent (path_of network (progress_at old.records step.row))
       (progress_at old.records step.row).hops (selects-frame next step).stands.here.0
 
--- the records of a frame that the port of the last one begins to send
+-- the records of a frame that the port of the last one sends
 abbrev sent-hops : (path : List ℕ) (p : Progress) → IsLast IsUnsent path p.hops → Ps → Ps → List HopRecord
 sent-hops path p at start end = at.before ++ record at.last { sent = Some (start, end) } ∷ []
 
@@ -422,6 +442,21 @@ selects-way path p at start end =
     set-last IsUnsent path p.hops at (record (last_hop p) { sent = Some (start, end) })
     ∙ ap (λ (last : HopRecord). at.before ++ record last { sent = Some (start, end) } ∷ [])
     (record-of-last IsUnsent path p.hops at no_hop)
+
+-- the last of them tells of the transmission
+abbrev sent-at : (path : List ℕ) (p : Progress) (at : IsLast IsUnsent path p.hops) (start end : Ps)
+    → IsLast IsSent path (with_sent p start end).hops
+sent-at path p at start end = record {
+  passed = at.passed;
+  port = at.port;
+  ahead = at.ahead;
+  before = at.before;
+  last = record at.last { sent = Some (start, end) };
+  along = at.along;
+  recorded = selects-way path p at start end;
+  same = at.same;
+  here = record { eligible = at.here.eligible; times = (start, end); verdict = at.here.verdict; sent = refl };
+}
 
 -- the transmission of a frame that was offered so begins as its port tells
 transmission-begun : (network : DeclaredNetwork) (p : Progress)
@@ -453,12 +488,23 @@ transmission-begun network p at started ps start end same ends =
     ∙ ap (Sent (class_at sender (place_of network p)) offer.eligible.0) until
     ∙ ap (λ (o : Offer). begun ps o start.0) same
 
+-- what a selection makes of what is told of a leg, whatever its ending
+selects-same : {T X : Type 0} {key : T → ℕ → ℕ → ℕ} {wait : ℕ → ℕ → ℕ} {network : DeclaredNetwork}
+    {old new : Course T} {now : Moment} {port : ℕ} {more : List (Moment × Event)} (f : Progress → X)
+    → ((p : Progress) (ending : Ending) → f (with_ending p ending) ≡ f p)
+    → (step : Selects key wait network old new now port more)
+    → f step.move.progress ≡ f (with_sent (progress_at old.records step.row) now.at step.end)
+selects-same {network = network} {old = old} {now = now} f same step =
+    let q : Progress = with_sent (progress_at old.records step.row) now.at step.end in
+    ap (λ (m : Move). f m.progress) step.is
+    ∙ leaves-same f same (length q.hops == length (path_of network q)) step.row q step.arrival
+
 -- a selection adds a transmission of its port
 pub selects-here : {T : Type 0} {key : T → ℕ → ℕ → ℕ} {wait : ℕ → ℕ → ℕ} {network : DeclaredNetwork}
     {releases : List Release}
     {old new : Course T} {now : Moment} {port : ℕ} {entries more : List (Moment × Event)}
     → IsNext key wait network releases old now (Selection port) entries
-    → (step : Selects key network old new now port more)
+    → (step : Selects key wait network old new now port more)
     → IsPermutation (begun (port_state_at old port).ps_per_bit step.starts.started now.at.0
     ∷ sent_so_far network old port) (sent_so_far network new port)
 selects-here {network = network} {old = old} {new = new} {now = now} {port = port} next step =
@@ -475,8 +521,9 @@ selects-here {network = network} {old = old} {new = new} {now = now} {port = por
     (selects-offer next step) step.starts.ends in
     let place : at.port ≡ port = sym (port-of-last IsUnsent path p.hops at 0) ∙ selects-place next step in
     let part : Progress → List Transmission = sent_part network port in
-    let own : part q ≡ part p ++ begins ∷ [] =
-    ap (λ (hs : List HopRecord). hops_at port (hops_along p.frame p.release sender path hs))
+    let own : part step.move.progress ≡ part p ++ begins ∷ [] =
+    selects-same part (λ r ending. refl) step
+    ∙ ap (λ (hs : List HopRecord). hops_at port (hops_along p.frame p.release sender path hs))
     (selects-way path p at now.at step.end)
     ∙ ap (hops_at port) (selected-hops p.frame p.release sender path p.hops at (now.at, step.end))
     ∙ hops_at-more port (leg_hops network p) (record { port = at.port; sent = t }) place
@@ -484,13 +531,13 @@ selects-here {network = network} {old = old} {new = new} {now = now} {port = por
     permuted-by begins (sent_so_far network old port) (sent_so_far network new port)
     (flat_map part old.records) (flat_map part new.records) (sent-gathered network old port)
     (sent-gathered network new port)
-    (records-more part begins (selects-advances next step) (pushed (part p) (part q) begins own))
+    (records-more part begins (selects-advances next step) (pushed (part p) (part step.move.progress) begins own))
 
 -- and no other
 pub selects-elsewhere : {T : Type 0} {key : T → ℕ → ℕ → ℕ} {wait : ℕ → ℕ → ℕ} {network : DeclaredNetwork}
     {releases : List Release}
     {old new : Course T} {now : Moment} {port : ℕ} {entries more : List (Moment × Event)}
-    → IsNext key wait network releases old now (Selection port) entries → Selects key network old new now port more
+    → IsNext key wait network releases old now (Selection port) entries → Selects key wait network old new now port more
     → (other : ℕ) → other ≢ port → sent_so_far network new other ≡ sent_so_far network old other
 selects-elsewhere {network = network} {old = old} {new = new} {now = now} {port = port} next step other apart =
     let p : Progress = progress_at old.records step.row in
@@ -500,8 +547,9 @@ selects-elsewhere {network = network} {old = old} {new = new} {now = now} {port 
     let t : Transmission =
     transmitted p.frame p.release (class_at sender at.port) at.here.eligible (now.at, step.end) in
     let place : at.port ≡ port = sym (port-of-last IsUnsent path p.hops at 0) ∙ selects-place next step in
-    let own : sent_part network other (with_sent p now.at step.end) ≡ sent_part network other p =
-    ap (λ (hs : List HopRecord). hops_at other (hops_along p.frame p.release sender path hs))
+    let own : sent_part network other step.move.progress ≡ sent_part network other p =
+    selects-same (sent_part network other) (λ r ending. refl) step
+    ∙ ap (λ (hs : List HopRecord). hops_at other (hops_along p.frame p.release sender path hs))
     (selects-way path p at now.at step.end)
     ∙ ap (hops_at other) (selected-hops p.frame p.release sender path p.hops at (now.at, step.end))
     ∙ hops_at-same other (leg_hops network p) (record { port = at.port; sent = t }) (λ e. apart (sym e ∙ place)) in
@@ -509,322 +557,106 @@ selects-elsewhere {network = network} {old = old} {new = new} {now = now} {port 
     ∙ records-same (sent_part network other) (selects-advances next step) own
     ∙ sym (sent-gathered network old other)
 
--- nothing has crossed a port by it
-pub selects-crossings : {T : Type 0} {key : T → ℕ → ℕ → ℕ} {wait : ℕ → ℕ → ℕ} {network : DeclaredNetwork}
-    {releases : List Release}
-    {old new : Course T} {now : Moment} {port : ℕ} {entries more : List (Moment × Event)}
-    → IsNext key wait network releases old now (Selection port) entries → Selects key network old new now port more
-    → (other : ℕ) → crossings_so_far network new other ≡ crossings_so_far network old other
-selects-crossings {network = network} {old = old} {new = new} {now = now} next step other =
-    let p : Progress = progress_at old.records step.row in
-    let q : Progress = with_sent p now.at step.end in
-    let sender : Sender = sender_of network p in
-    let path : List ℕ = path_of network p in
-    let at : IsLast IsUnsent path p.hops = selects-at next step in
-    let unended = (selects-frame next step).stands.unended in
-    let was = crossings-open network (stage_at old step.row) Waiting p (selects-stage next step) unended in
-    let is = crossings-open network (Sending step.end) (Sending step.end) q refl unended in
-    let own =
-    ap (λ (hs : List HopRecord). crossings_along p.frame p.release sender path hs Discard)
-    (selects-way path p at now.at step.end)
-    ∙ selected-crossings p.frame p.release sender path p.hops at (now.at, step.end) in
-    crossed-gathered network new other
-    ∙ both-same (crossings_part network other) (selects-advances next step)
-    (ap (crossings_at other) (is ∙ own ∙ sym was))
-    ∙ sym (crossed-gathered network old other)
-
--- or was handed on
+-- it hands nothing on
 pub selects-handed : {T : Type 0} {key : T → ℕ → ℕ → ℕ} {wait : ℕ → ℕ → ℕ} {network : DeclaredNetwork}
     {releases : List Release}
     {old new : Course T} {now : Moment} {port : ℕ} {entries more : List (Moment × Event)}
-    → IsNext key wait network releases old now (Selection port) entries → Selects key network old new now port more
+    → IsNext key wait network releases old now (Selection port) entries → Selects key wait network old new now port more
     → (other class : ℕ) → handed_so_far network new other class ≡ handed_so_far network old other class
 selects-handed {network = network} {old = old} {new = new} {now = now} next step other class =
     let p : Progress = progress_at old.records step.row in
     let sender : Sender = sender_of network p in
     let path : List ℕ = path_of network p in
     let at : IsLast IsUnsent path p.hops = selects-at next step in
-    let own : handed_part network other class (with_sent p now.at step.end) ≡ handed_part network other class p =
-    ap (λ (hs : List HopRecord). handed_in other class (handed_along p.frame p.release sender path hs))
+    let own : handed_part network other class step.move.progress ≡ handed_part network other class p =
+    selects-same (handed_part network other class) (λ r ending. refl) step
+    ∙ ap (λ (hs : List HopRecord). handed_in other class (handed_along p.frame p.release sender path hs))
     (selects-way path p at now.at step.end)
     ∙ ap (handed_in other class) (selected-handed p.frame p.release sender path p.hops at (now.at, step.end)) in
     handed_on-gathered network new other class
     ∙ records-same (handed_part network other class) (selects-advances next step) own
     ∙ sym (handed_on-gathered network old other class)
 
--- a frame that leaves a port for the leg's listener, or else for the next port
-abbrev leaves-if : Bool → ℕ → Progress → Ps → Move
-leaves-if last row p arrival =
-    if last then record { stage = Over; progress = with_ending p (Sink arrival); entries = [] }
-    else record {
-      stage = Coming arrival;
-      progress = p;
-      entries = (arrival_moment row arrival, Arrival row) ∷ [];
-    }
-
--- counts as sunk when it arrives there, either way
-leaves-crossings : (network : DeclaredNetwork) (last : Bool) (row : ℕ) (p : Progress) (arrival : Ps)
-    → p.ending ≡ Discard
-    → leg_crossings network ((leaves-if last row p arrival).stage, (leaves-if last row p arrival).progress)
-    ≡ crossings_along p.frame p.release (sender_of network p) (path_of network p) p.hops (Sink arrival)
-leaves-crossings network true row p arrival unended = refl
-leaves-crossings network false row p arrival unended = refl
-
--- and has been sent and handed on as before
-leaves-same : {X : Type 0} (f : Progress → X)
-    → ((p : Progress) (ending : Ending) → f (with_ending p ending) ≡ f p) → (last : Bool) (row : ℕ) (p : Progress)
-    (arrival : Ps) → f (leaves-if last row p arrival).progress ≡ f p
-leaves-same f same true row p arrival = same p (Sink arrival)
-leaves-same f same false row p arrival = refl
-
--- when its transmission ends too
-ends-same : {T X : Type 0} {key : T → ℕ → ℕ → ℕ} {wait : ℕ → ℕ → ℕ} {network : DeclaredNetwork}
-    {old new : Course T} {now : Moment} {row : ℕ} {more : List (Moment × Event)} (f : Progress → X)
-    → ((p : Progress) (ending : Ending) → f (with_ending p ending) ≡ f p)
-    → (step : Ends key wait network old new now row more) → f step.move.progress ≡ f (progress_at old.records row)
-ends-same {network = network} {old = old} {row = row} f same step =
-    let p : Progress = progress_at old.records row in
-    ap (λ (m : Move). f m.progress) step.is
-    ∙ leaves-same f same (length p.hops == length (path_of network p)) row p step.arrival
-
-module _ {T : Type 0} {key : T → ℕ → ℕ → ℕ} {wait : ℕ → ℕ → ℕ} {network : DeclaredNetwork} {releases : List Release}
-    {old new : Course T} {now : Moment} {row : ℕ} {entries more : List (Moment × Event)} where
-  -- the frame goes on along the leg
-  ends-advances : IsNext key wait network releases old now (End row) entries
-      → (step : Ends key wait network old new now row more)
-      → Advances old new row step.move.stage step.move.progress
-  ends-advances next step =
-      record {
-        within = ending-within next;
-        many = next.holds.shape.stages;
-        stages = ap (λ (c : Course T). c.stages) step.becomes;
-        records = ap (λ (c : Course T). c.records) step.becomes;
-      }
-
-  -- where it crosses its ports so
-  ends-after : IsNext key wait network releases old now (End row) entries
-      → (step : Ends key wait network old new now row more)
-      → leg_crossings network (step.move.stage, step.move.progress)
-      ≡ crossings_along (progress_at old.records row).frame (progress_at old.records row).release
-      (sender_of network (progress_at old.records row)) (path_of network (progress_at old.records row))
-      (progress_at old.records row).hops (Sink step.arrival)
-  ends-after next step =
-      ap (λ (m : Move). leg_crossings network (m.stage, m.progress)) step.is
-      ∙ leaves-crossings network (length (progress_at old.records row).hops
-      == length (path_of network (progress_at old.records row))) row (progress_at old.records row) step.arrival
-      (ending-frame next).stands.unended
-
-module _ {T : Type 0} {key : T → ℕ → ℕ → ℕ} {wait : ℕ → ℕ → ℕ} {network : DeclaredNetwork} {releases : List Release}
-    {old : Course T} {now : Moment} {row : ℕ} {entries : List (Moment × Event)} where
-  -- before, it had crossed these
-  ends-before : IsNext key wait network releases old now (End row) entries
-      → leg_crossings network (stage_at old row, progress_at old.records row)
-      ≡ crossings_along (progress_at old.records row).frame (progress_at old.records row).release
-      (sender_of network (progress_at old.records row)) (path_of network (progress_at old.records row))
-      (progress_at old.records row).hops Discard
-  ends-before next =
-      crossings-open network (stage_at old row) (Sending now.at) (progress_at old.records row) (next-sending next)
-      (ending-frame next).stands.unended
-
-  -- with a last record that tells of that transmission
-  ends-at : IsNext key wait network releases old now (End row) entries
-      → IsLast (IsSentUntil now.at) (path_of network (progress_at old.records row))
-      (progress_at old.records row).hops
-  ends-at next =
-      stands-split (IsSentUntil now.at) (path_of network (progress_at old.records row))
-      (progress_at old.records row).hops (ending-frame next).stands.here.0
-
--- the end of a transmission was told when it began
-pub ends-sent : {T : Type 0} {key : T → ℕ → ℕ → ℕ} {wait : ℕ → ℕ → ℕ} {network : DeclaredNetwork}
-    {releases : List Release}
-    {old new : Course T} {now : Moment} {row : ℕ} {entries more : List (Moment × Event)}
-    → IsNext key wait network releases old now (End row) entries → Ends key wait network old new now row more
-    → (other : ℕ) → sent_so_far network new other ≡ sent_so_far network old other
-ends-sent {network = network} {old = old} {new = new} next step other =
-    sent-gathered network new other
-    ∙ records-same (sent_part network other) (ends-advances next step)
-    (ends-same (sent_part network other) (λ p ending. refl) step)
-    ∙ sym (sent-gathered network old other)
-
--- and hands nothing on
-pub ends-handed : {T : Type 0} {key : T → ℕ → ℕ → ℕ} {wait : ℕ → ℕ → ℕ} {network : DeclaredNetwork}
-    {releases : List Release}
-    {old new : Course T} {now : Moment} {row : ℕ} {entries more : List (Moment × Event)}
-    → IsNext key wait network releases old now (End row) entries → Ends key wait network old new now row more
-    → (other class : ℕ) → handed_so_far network new other class ≡ handed_so_far network old other class
-ends-handed {network = network} {old = old} {new = new} next step other class =
-    handed_on-gathered network new other class
-    ∙ records-same (handed_part network other class) (ends-advances next step)
-    (ends-same (handed_part network other class) (λ p ending. refl) step)
-    ∙ sym (handed_on-gathered network old other class)
-
--- the crossing of a frame whose transmission has ended at its last port
-abbrev crossed-last : (network : DeclaredNetwork) (p : Progress) (until : Ps)
-    → IsLast (IsSentUntil until) (path_of network p) p.hops → Ps → Crossing
-crossed-last network p until at arrival =
+-- the crossing of a frame that its port sends
+abbrev crossed-last : (network : DeclaredNetwork) (p : Progress) (start end : Ps)
+    → IsLast IsUnsent (path_of network p) p.hops → Ps → Crossing
+crossed-last network p start end at arrival =
     crossing_of p.release.octets at.last.arrival.0 at.port
-    (transmitted p.frame p.release (class_at (sender_of network p) at.port) at.here.eligible (at.here.start, until))
+    (transmitted p.frame p.release (class_at (sender_of network p) at.port) at.here.eligible (start, end))
     arrival.0
 
--- it adds this crossing of its port
-pub ends-here : {T : Type 0} {key : T → ℕ → ℕ → ℕ} {wait : ℕ → ℕ → ℕ} {network : DeclaredNetwork}
+-- along its leg it has crossed one port more then
+selects-crosses : {T : Type 0} {key : T → ℕ → ℕ → ℕ} {wait : ℕ → ℕ → ℕ} {network : DeclaredNetwork}
     {releases : List Release}
-    {old new : Course T} {now : Moment} {row : ℕ} {entries more : List (Moment × Event)}
-    → IsNext key wait network releases old now (End row) entries
-    → (step : Ends key wait network old new now row more)
-    → (x : Crossing) × IsCrossing network (progress_at old.records row) now.at.0 step.arrival.0 x
-    × IsPermutation (x ∷ crossings_so_far network old (place_at network old row))
-    (crossings_so_far network new (place_at network old row))
-ends-here {network = network} {old = old} {new = new} {now = now} {row = row} next step =
-    let p : Progress = progress_at old.records row in
+    {old new : Course T} {now : Moment} {port : ℕ} {entries more : List (Moment × Event)}
+    → (next : IsNext key wait network releases old now (Selection port) entries)
+    → (step : Selects key wait network old new now port more)
+    → leg_crossings network (step.move.stage, step.move.progress)
+    ≡ leg_crossings network (stage_at old step.row, progress_at old.records step.row)
+    ++ crossed-last network (progress_at old.records step.row) now.at step.end (selects-at next step) step.arrival ∷ []
+selects-crosses {network = network} {old = old} {now = now} next step =
+    let p : Progress = progress_at old.records step.row in
+    let q : Progress = with_sent p now.at step.end in
+    let sender : Sender = sender_of network p in
     let path : List ℕ = path_of network p in
-    let at : IsLast (IsSentUntil now.at) path p.hops = ends-at next in
-    let place : at.port ≡ place_of network p = sym (port-of-last (IsSentUntil now.at) path p.hops at 0) in
-    let x : Crossing = crossed-last network p now.at at step.arrival in
-    let one = ended-crossings p.frame p.release (sender_of network p) path p.hops now.at step.arrival at in
-    let port : ℕ = place_of network p in
+    let at : IsLast IsUnsent path p.hops = selects-at next step in
+    let x : Crossing = crossed-last network p now.at step.end at step.arrival in
+    let unended = (selects-frame next step).stands.unended in
+    let was = crossings-open network (stage_at old step.row) Waiting p (selects-stage next step) unended in
+    let own =
+    ap (λ (hs : List HopRecord). crossings_along p.frame p.release sender path hs Discard)
+    (selects-way path p at now.at step.end)
+    ∙ selected-crossings p.frame p.release sender path p.hops at (now.at, step.end) in
+    ap (λ (m : Move). leg_crossings network (m.stage, m.progress)) step.is
+    ∙ leaves-crossings network (length q.hops == length (path_of network q)) step.row q step.arrival unended
+    ∙ sent-crossings p.frame p.release sender path q.hops step.arrival (sent-at path p at now.at step.end)
+    ∙ ap (λ (xs : List Crossing). xs ++ x ∷ []) (own ∙ sym was)
+
+-- so the selection adds this crossing of its port
+pub selects-crossing : {T : Type 0} {key : T → ℕ → ℕ → ℕ} {wait : ℕ → ℕ → ℕ} {network : DeclaredNetwork}
+    {releases : List Release}
+    {old new : Course T} {now : Moment} {port : ℕ} {entries more : List (Moment × Event)}
+    → IsNext key wait network releases old now (Selection port) entries
+    → (step : Selects key wait network old new now port more)
+    → (x : Crossing) × IsCrossing network (progress_at old.records step.row) step.end.0 step.arrival.0 x
+    × IsPermutation (x ∷ crossings_so_far network old port) (crossings_so_far network new port)
+selects-crossing {network = network} {old = old} {new = new} {now = now} {port = port} next step =
+    let p : Progress = progress_at old.records step.row in
+    let path : List ℕ = path_of network p in
+    let at : IsLast IsUnsent path p.hops = selects-at next step in
+    let place : at.port ≡ place_of network p = sym (port-of-last IsUnsent path p.hops at 0) in
+    let x : Crossing = crossed-last network p now.at step.end at step.arrival in
     let part : Stage × Progress → List Crossing = crossings_part network port in
-    let before : Stage × Progress = (stage_at old row, p) in
+    let before : Stage × Progress = (stage_at old step.row, p) in
     let after : Stage × Progress = (step.move.stage, step.move.progress) in
     let own : part after ≡ part before ++ x ∷ [] =
-    ap (crossings_at port) (ends-after next step ∙ one
-    ∙ ap (λ (xs : List Crossing). xs ++ x ∷ []) (sym (ends-before next)))
-    ∙ crossings_at-more port (leg_crossings network before) x place in (
+    ap (crossings_at port) (selects-crosses next step)
+    ∙ crossings_at-more port (leg_crossings network before) x (place ∙ selects-place next step) in (
       x,
       record { named = refl; behind = place; ends = refl; arrives = refl },
       permuted-by x (crossings_so_far network old port) (crossings_so_far network new port)
           (flat_map part (zip old.stages old.records)) (flat_map part (zip new.stages new.records))
           (crossed-gathered network old port) (crossed-gathered network new port)
-          (both-more part x (ends-advances next step) (pushed (part before) (part after) x own)),
+          (both-more part x (selects-advances next step) (pushed (part before) (part after) x own)),
     )
 
 -- and of no other
-pub ends-elsewhere : {T : Type 0} {key : T → ℕ → ℕ → ℕ} {wait : ℕ → ℕ → ℕ} {network : DeclaredNetwork}
+pub selects-uncrossed : {T : Type 0} {key : T → ℕ → ℕ → ℕ} {wait : ℕ → ℕ → ℕ} {network : DeclaredNetwork}
     {releases : List Release}
-    {old new : Course T} {now : Moment} {row : ℕ} {entries more : List (Moment × Event)}
-    → IsNext key wait network releases old now (End row) entries → Ends key wait network old new now row more
-    → (other : ℕ) → other ≢ place_at network old row
-    → crossings_so_far network new other ≡ crossings_so_far network old other
-ends-elsewhere {network = network} {old = old} {new = new} {now = now} {row = row} next step other apart =
-    let p : Progress = progress_at old.records row in
+    {old new : Course T} {now : Moment} {port : ℕ} {entries more : List (Moment × Event)}
+    → IsNext key wait network releases old now (Selection port) entries → Selects key wait network old new now port more
+    → (other : ℕ) → other ≢ port → crossings_so_far network new other ≡ crossings_so_far network old other
+selects-uncrossed {network = network} {old = old} {new = new} {now = now} {port = port} next step other apart =
+    let p : Progress = progress_at old.records step.row in
     let path : List ℕ = path_of network p in
-    let at : IsLast (IsSentUntil now.at) path p.hops = ends-at next in
-    let place : at.port ≡ place_of network p = sym (port-of-last (IsSentUntil now.at) path p.hops at 0) in
-    let x : Crossing = crossed-last network p now.at at step.arrival in
-    let one = ended-crossings p.frame p.release (sender_of network p) path p.hops now.at step.arrival at in
-    let before : Stage × Progress = (stage_at old row, p) in
+    let at : IsLast IsUnsent path p.hops = selects-at next step in
+    let place : at.port ≡ port = sym (port-of-last IsUnsent path p.hops at 0) ∙ selects-place next step in
+    let x : Crossing = crossed-last network p now.at step.end at step.arrival in
+    let before : Stage × Progress = (stage_at old step.row, p) in
     let own : crossings_part network other (step.move.stage, step.move.progress)
     ≡ crossings_part network other before =
-    ap (crossings_at other) (ends-after next step ∙ one
-    ∙ ap (λ (xs : List Crossing). xs ++ x ∷ []) (sym (ends-before next)))
+    ap (crossings_at other) (selects-crosses next step)
     ∙ crossings_at-same other (leg_crossings network before) x (λ e. apart (sym e ∙ place)) in
     crossed-gathered network new other
-    ∙ both-same (crossings_part network other) (ends-advances next step) own
+    ∙ both-same (crossings_part network other) (selects-advances next step) own
     ∙ sym (crossed-gathered network old other)
-
--- where no crossing is of a port, anything holds of those that are
-none-there : (P : Crossing → Type 0) (port : ℕ) (crossings : List Crossing)
-    → All (λ (x : Crossing). x.port ≢ port) crossings → All P (crossings_at port crossings)
-none-there P port crossings apart k d h =
-    let test = λ (x : Crossing). x.port == port in
-    let x : Crossing = get_or (crossings_at port crossings) k d in
-    absurd (All-filter test (λ (c : Crossing). c.port ≢ port) crossings apart k d h
-    (eqb-true x.port port (filter_passes test crossings k d h)))
-
--- a frame that is sent by its last port has not crossed it along this leg
-own-others : (network : DeclaredNetwork) → IsNetwork network → (p : Progress) (until : Ps)
-    → p.release.sender < length (senders_of network) → p.leg ≤ length (sender_of network p).branches
-    → IsLast (IsSentUntil until) (path_of network p) p.hops
-    → All (λ (x : Crossing). x.sent.frame ≢ p.frame)
-    (crossings_at (place_of network p)
-    (crossings_along p.frame p.release (sender_of network p) (path_of network p) p.hops Discard))
-own-others network rules p until known there at =
-    let sender : Sender = sender_of network p in
-    let path : List ℕ = path_of network p in
-    let Other : Crossing → Type 0 = λ (x : Crossing). x.sent.frame ≢ p.frame in
-    let place : at.port ≡ place_of network p = sym (port-of-last (IsSentUntil until) path p.hops at 0) in
-    let apart : All (λ (q : ℕ). q ≢ at.port) at.passed =
-    passed-apart at.passed at.port at.ahead (subst (AllPairs (λ (a b : ℕ). a ≢ b)) at.along
-    (leg-apart network p.release.sender p.leg rules known there)) in
-    let earlier : List Crossing =
-    crossings_along p.frame p.release sender at.passed at.before (Sink at.last.arrival) in
-    subst (λ (xs : List Crossing). All Other (crossings_at (place_of network p) xs))
-    (sym (ended-before p.frame p.release sender path p.hops until at))
-    (subst (λ (port : ℕ). All Other (crossings_at port earlier)) place
-    (none-there Other at.port earlier
-    (crossings-elsewhere p.frame p.release sender at.port at.passed at.before (Sink at.last.arrival) apart)))
-
--- those of a frame with another number are others
-numbered-others : (network : DeclaredNetwork) (port frame : ℕ) (stage : Stage) (p : Progress) → p.frame ≢ frame
-    → All (λ (x : Crossing). x.sent.frame ≢ frame) (crossings_part network port (stage, p))
-numbered-others network port frame stage p apart =
-    All-filter (λ (x : Crossing). x.port == port) (λ (x : Crossing). x.sent.frame ≢ frame)
-    (leg_crossings network (stage, p))
-    (All-weaker (λ (x : Crossing). x.sent.frame ≡ p.frame) (λ (x : Crossing). x.sent.frame ≢ frame)
-    (λ x is e. apart (sym is ∙ e)) (leg_crossings network (stage, p))
-    (crossings-numbered p.frame p.release (sender_of network p) (path_of network p) p.hops
-    (ending_by stage p.ending)))
-
--- and a leg that has not the port gives none
-off-others : (network : DeclaredNetwork) (port frame : ℕ) (stage : Stage) (p : Progress)
-    → All (λ (q : ℕ). q ≢ port) (path_of network p)
-    → All (λ (x : Crossing). x.sent.frame ≢ frame) (crossings_part network port (stage, p))
-off-others network port frame stage p off =
-    none-there (λ (x : Crossing). x.sent.frame ≢ frame) port (leg_crossings network (stage, p))
-    (crossings-elsewhere p.frame p.release (sender_of network p) port (path_of network p) p.hops
-    (ending_by stage p.ending) off)
-
--- before, the frame had not crossed it, along any leg
-pub ends-others : {T : Type 0} {key : T → ℕ → ℕ → ℕ} {wait : ℕ → ℕ → ℕ} {network : DeclaredNetwork}
-    {releases : List Release}
-    {old new : Course T} {now : Moment} {row : ℕ} {entries more : List (Moment × Event)}
-    → IsNext key wait network releases old now (End row) entries → Ends key wait network old new now row more
-    → All (λ (x : Crossing). x.sent.frame ≢ (progress_at old.records row).frame)
-    (crossings_so_far network old (place_at network old row))
-ends-others {network = network} {old = old} {now = now} {row = row} next step =
-    let shape = next.holds.shape in
-    let p : Progress = progress_at old.records row in
-    let port : ℕ = place_of network p in
-    let rows : List (Stage × Progress) = zip old.stages old.records in
-    let none : Stage × Progress = (Over, no_progress) in
-    let Other : Crossing → Type 0 = λ (x : Crossing). x.sent.frame ≢ p.frame in
-    let Others : ℕ → Type 0 = λ (n : ℕ).
-    All Other (crossings_part network port (stage_at old n, progress_at old.records n)) in
-    let at = ends-at next in
-    let own : Others row =
-    subst (λ (xs : List Crossing). All Other (crossings_at port xs)) (sym (ends-before next))
-    (own-others network next.holds.rules p now.at (ending-frame next).sender (ending-frame next).leg at) in
-    let stands = (ending-frame next).stands.here.0 in
-    let has = place-has network p (stands-some (IsSentUntil now.at) (path_of network p) p.hops stands)
-    (stands-at_most (IsSentUntil now.at) (path_of network p) p.hops stands) in
-    let off : (n : ℕ) → n < length old.records → n ≢ row → p.frame ≡ (progress_at old.records n).frame
-    → All (λ (q : ℕ). q ≢ port) (path_of network (progress_at old.records n)) =
-    λ n within apart same k d h is.
-    let path : List ℕ = path_of network (progress_at old.records n) in
-    let one = port-one next.holds.rules shape row n port (ending-within next) within (ending-frame next).sender same has
-    (k, h, get_or_default path k port d h ∙ is) in
-    apart (sym one) in
-    let each : (n : ℕ) → n < length old.records → Others n =
-    λ n within. elim (cases_eq n row) as (λ _. Others n) [
-      | inl e ↦ subst Others (sym e) own
-      | inr apart ↦ elim (cases_eq p.frame (progress_at old.records n).frame) as (λ _. Others n) [
-        | inl same ↦ off-others network port p.frame (stage_at old n) (progress_at old.records n)
-            (off n within apart same)
-        | inr others ↦ numbered-others network port p.frame (stage_at old n) (progress_at old.records n)
-            (λ e. others (sym e))
-      ]
-    ] in
-    subst (All Other) (sym (crossed-gathered network old port))
-    (gather-all Other (crossings_part network port) rows none (λ k h.
-    let within : k < length old.records = omega (arith, length-zip old.stages old.records, shape.stages, h) in
-    subst (λ (r : Stage × Progress). All Other (crossings_part network port r))
-    (sym (row-of-both old k shape.stages within)) (each k within)))
-
--- whatever crossed a port was sent by it
-pub crossings-are-sent : {T : Type 0} (network : DeclaredNetwork) (course : Course T) (port : ℕ)
-    → All (λ (x : Crossing). Contains (sent_so_far network course port) x.sent) (crossings_so_far network course port)
-crossings-are-sent network course port =
-    let sent : List Transmission = sent_so_far network course port in
-    subst (All (λ (x : Crossing). Contains sent x.sent)) (sym (crossed-gathered network course port))
-    (crossings-of-sent (Contains sent) network port course.stages course.records
-    (subst (All (Contains sent)) (sent-gathered network course port) (All-contains_itself sent)))

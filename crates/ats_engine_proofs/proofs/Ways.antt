@@ -11,22 +11,13 @@ use Rattle.ats_trace.specs.declared.journey.Ending.TheVariants.{Sink, Discard}
 use Rattle.ats_trace.specs.HopRecord.{HopRecord}
 use Rattle.ats_trace.specs.declared.journey.Release.{Release}
 use Rattle.ats_run_records.specs.Progress.{no_hop}
-use Rattle.ats_engine_steps.specs.Frames.{IsUnsent, IsSentUntil, IsSent, Goes, Stands, HasBegun, BeginsBy}
+use Rattle.ats_engine_steps.specs.Frames.{IsUnsent, IsSent, Goes, Stands, HasBegun, BeginsBy}
 use Rattle.ats_engine_steps.specs.Steps.{came}
 
 -- a frame that was sent goes on
 sent-onward : (onward : Type 0) (hop : HopRecord) (hops : List HopRecord) (ending : Ending) → IsSent hop → onward
     → IsSentOrEnds onward hop.verdict hop.sent hops ending
 sent-onward onward hop hops ending sent on = rw (sent.verdict, sent.sent) on
-
--- one that was sent until some time was sent
-sent-some : (until : Ps) (hop : HopRecord) → IsSentUntil until hop → IsSent hop
-sent-some until hop sent = record {
-  eligible = sent.eligible;
-  times = (sent.start, until);
-  verdict = sent.verdict;
-  sent = sent.sent;
-}
 
 -- a record of a frame that was sent, before those of the rest of the path
 stands-more : (Last : HopRecord → Type 0) (p : ℕ) (path : List ℕ) (hop : HopRecord) (hops : List HopRecord)
@@ -94,26 +85,26 @@ begun-more (suc copy) release None (hop ∷ hops) at verdict begins first = absu
 abbrev pub sent_hops : List HopRecord → ℕ → Ps → Ps → List HopRecord
 sent_hops hops k start end = set hops k (record (get_or hops k no_hop) { sent = Some (start, end) })
 
--- where its last record has this place, it is sent until then
+-- where its last record has this place, it tells of that
 stands-sent-at : (path : List ℕ) (hops : List HopRecord) (k : ℕ) (start end : Ps) → length hops ≡ suc k
-    → Stands IsUnsent path hops → Stands (IsSentUntil end) path (sent_hops hops k start end)
+    → Stands IsUnsent path hops → Stands IsSent path (sent_hops hops k start end)
 stands-sent-at [] hops k start end long stands = absurd stands
 stands-sent-at (p ∷ path) [] k start end long stands = absurd stands
 stands-sent-at (p ∷ path) (hop ∷ []) zero start end long stands = record {
   eligible = stands.eligible;
-  start = start;
+  times = (start, end);
   verdict = stands.verdict;
   sent = refl;
 }
 stands-sent-at (p ∷ path) (hop ∷ []) (suc k) start end long stands = absurd (omega arith)
 stands-sent-at (p ∷ path) (hop ∷ next ∷ hops) zero start end long stands = absurd (omega arith)
 stands-sent-at (p ∷ path) (hop ∷ next ∷ hops) (suc k) start end long stands =
-    stands-more (IsSentUntil end) p path hop (sent_hops (next ∷ hops) k start end) stands.0
+    stands-more IsSent p path hop (sent_hops (next ∷ hops) k start end) stands.0
     (stands-sent-at path (next ∷ hops) k start end (omega arith) stands.1)
 
 -- so it is
 pub stands-sent : (path : List ℕ) (hops : List HopRecord) (start end : Ps) → Stands IsUnsent path hops
-    → Stands (IsSentUntil end) path (sent_hops hops (length hops - 1) start end)
+    → Stands IsSent path (sent_hops hops (length hops - 1) start end)
 stands-sent path hops start end stands =
     let some = stands-some IsUnsent path hops stands in
     stands-sent-at path hops (length hops - 1) start end (omega arith) stands
@@ -130,26 +121,25 @@ begun-sent (suc copy) release (Some start) (hop ∷ hops) zero begin end begun =
 begun-sent (suc copy) release (Some start) (hop ∷ hops) (suc k) begin end begun = begun
 
 -- once it was sent by a port that is not its path's last, more ports follow
-pub sent-goes : (path : List ℕ) (hops : List HopRecord) (until : Ps) → Stands (IsSentUntil until) path hops
-    → length hops ≢ length path → Goes path hops
-sent-goes [] hops until stands more = absurd stands
-sent-goes (p ∷ path) [] until stands more = absurd stands
-sent-goes (p ∷ []) (hop ∷ []) until stands more = absurd (more refl)
-sent-goes (p ∷ q ∷ path) (hop ∷ []) until stands more = (sent-some until hop stands, tt)
-sent-goes (p ∷ path) (hop ∷ next ∷ hops) until stands more =
-    (stands.0, sent-goes path (next ∷ hops) until stands.1 (λ same. more (omega arith)))
+pub sent-goes : (path : List ℕ) (hops : List HopRecord) → Stands IsSent path hops → length hops ≢ length path
+    → Goes path hops
+sent-goes [] hops stands more = absurd stands
+sent-goes (p ∷ path) [] stands more = absurd stands
+sent-goes (p ∷ []) (hop ∷ []) stands more = absurd (more refl)
+sent-goes (p ∷ q ∷ path) (hop ∷ []) stands more = (stands, tt)
+sent-goes (p ∷ path) (hop ∷ next ∷ hops) stands more =
+    (stands.0, sent-goes path (next ∷ hops) stands.1 (λ same. more (omega arith)))
 
 -- behind the last one its way is whole
-pub sent-way : (path : List ℕ) (hops : List HopRecord) (until at : Ps) → Stands (IsSentUntil until) path hops
+pub sent-way : (path : List ℕ) (hops : List HopRecord) (at : Ps) → Stands IsSent path hops
     → length hops ≡ length path → IsWay path hops (Sink at)
-sent-way [] hops until at stands all = absurd stands
-sent-way (p ∷ path) [] until at stands all = absurd stands
-sent-way (p ∷ []) (hop ∷ []) until at stands all =
-    sent-onward (Unit {0}) hop [] (Sink at) (sent-some until hop stands) tt
-sent-way (p ∷ q ∷ path) (hop ∷ []) until at stands all = absurd (omega arith)
-sent-way (p ∷ path) (hop ∷ next ∷ hops) until at stands all =
+sent-way [] hops at stands all = absurd stands
+sent-way (p ∷ path) [] at stands all = absurd stands
+sent-way (p ∷ []) (hop ∷ []) at stands all = sent-onward (Unit {0}) hop [] (Sink at) stands tt
+sent-way (p ∷ q ∷ path) (hop ∷ []) at stands all = absurd (omega arith)
+sent-way (p ∷ path) (hop ∷ next ∷ hops) at stands all =
     sent-onward (IsWay path (next ∷ hops) (Sink at)) hop (next ∷ hops) (Sink at) stands.0
-    (sent-way path (next ∷ hops) until at stands.1 (omega arith))
+    (sent-way path (next ∷ hops) at stands.1 (omega arith))
 
 -- a frame that came to a port comes to the next one whenever it arrives there
 pub begun-comes : (leg : ℕ) (release : Release) (start : Option HopRecord) (hops : List HopRecord) (at : Ps)

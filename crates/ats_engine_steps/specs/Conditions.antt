@@ -1,4 +1,4 @@
-use Rattle.std.specs.Prelude.{◌≡◌, ◌≢◌, ℕ, ◌+◌, ◌<◌, ◌≤◌, true, false, List, length, slice_index}
+use Rattle.std.specs.Prelude.{◌≡◌, ◌≢◌, ℕ, ◌+◌, ◌*◌, ◌<◌, ◌≤◌, false, List, length, slice_index}
 use Rattle.std.specs.Prelude.{All, AllPairs, Contains}
 use Rattle.ats_num.specs.declared.time.TheConstants.{PS_PER_SECOND, END}
 use Rattle.ats_num.specs.declared.pace.TheConstants.{MAX_SPREAD}
@@ -7,9 +7,9 @@ use Rattle.ats_streams.specs.declared.path.TheConstants.{MAX_PORTS}
 use Rattle.ats_network.specs.Network.{DeclaredNetwork, senders_of}
 use Rattle.ats_group.specs.GroupsState.{GroupsState}
 use Rattle.ats_schedulers.specs.Schedulers.{members_of}
-use Rattle.ats_num.specs.Wire.{IsFrameSize}
+use Rattle.ats_num.specs.Wire.{IsFrameSize, bits_of}
 use Rattle.ats_transmit.specs.Picks.{IsFirstStart}
-use Rattle.ats_transmit.specs.Sending.{last_start, last_end}
+use Rattle.ats_transmit.specs.Sending.{last_start}
 use Rattle.ats_transmit.specs.State.{offered_of}
 use Rattle.ats_transmit.specs.declared.sent.Sent.{Sent}
 use Rattle.ats_transmit.specs.declared.offer.Offer.{Offer}
@@ -78,33 +78,24 @@ pub record IsThere {T : Type 0} (network : DeclaredNetwork) (course : Course T) 
   pub numbered : frame < length course.firsts
   pub sender : (progress_at course.records frame).release.sender < length (senders_of network)
   pub passes : Contains (sender_of network (progress_at course.records frame)).ports port
-  pub came : (row : ℕ) → IsLegAt network course frame port row
-      → (row < length course.records) × (0 < length (progress_at course.records row).hops)
+  pub came : (row : ℕ) → IsLegAt network course frame port row → IsPlaced network course.records row
   pub eligible : (row : ℕ) → IsLegAt network course frame port row
       → IsEligible (last_hop (progress_at course.records row)).verdict
 
--- a port selects now: it is free and due
+-- a port selects now: it is free and due, and whatever it may send ends in time
 pub record MaySelect {T : Type 0} (network : DeclaredNetwork) (course : Course T) (now port : ℕ) : Type 0 where
   pub stages : length course.stages ≡ length course.records
   pub within : port < length course.ports
-  pub turns : port < length course.turns
+  pub turns : length course.turns ≡ length course.ports
+  pub arrivals : length course.arrives_from ≡ length course.ports
+  pub links : length course.ports ≡ length network.topology.ports
   pub tie : (port_state_at course port).tie ≡ course.tie
   pub free : (port_state_at course port).is_sending ≡ false
   pub due : IsFirstStart (port_state_at course port).held (port_state_at course port).sent now
   pub there : All (λ (o : Offer). IsThere network course port o.frame) (port_state_at course port).held
   pub time : now < END
-
--- the transmission of a frame along a leg ends now, at the port of its last hop record
-pub record MayEnd {T : Type 0} (network : DeclaredNetwork) (course : Course T) (now row : ℕ) : Type 0 where
-  pub stages : length course.stages ≡ length course.records
-  pub placed : IsPlaced network course.records row
-  pub port : place_at network course row < length course.ports
-  pub turns : length course.turns ≡ length course.ports
-  pub arrivals : length course.arrives_from ≡ length course.ports
-  pub links : length course.ports ≡ length network.topology.ports
-  pub sending : (port_state_at course (place_at network course row)).is_sending ≡ true
-  pub end : last_end (port_state_at course (place_at network course row)).sent ≡ now
-  pub spread : spread_of (port_at network.topology.ports (place_at network course row)) ≤ MAX_SPREAD
-  pub earliest : (port_at network.topology.ports (place_at network course row)).earliest.0 ≤ END
-  pub from : arrives_from_at course (place_at network course row) ≤ END
-  pub time : now ≤ END
+  pub ends : All (λ (o : Offer). now + (port_state_at course port).ps_per_bit * bits_of o.octets ≤ END)
+      (port_state_at course port).held
+  pub spread : spread_of (port_at network.topology.ports port) ≤ MAX_SPREAD
+  pub earliest : (port_at network.topology.ports port).earliest.0 ≤ END
+  pub from : arrives_from_at course port ≤ END

@@ -81,8 +81,8 @@ offer_of network progress = record {
 abbrev pub offer_at : {T : Type 0} → DeclaredNetwork → Course T → ℕ → Offer
 offer_at network course row = offer_of network (progress_at course.records row)
 
--- how a way along a leg ends, as far as it is known: a frame on its way behind a port counts as if it were at its
--- listener when it arrives, so that it has crossed the port
+-- how a way along a leg ends, as far as it is known: a frame that a port sends, or that is on its way behind it, counts
+-- as if it were at its listener when it arrives, so that it has crossed the port
 abbrev pub ending_by : Stage → Ending → Ending
 ending_by (Coming at) ending = Sink at
 ending_by stage ending = ending

@@ -2,19 +2,16 @@ use Rattle.std.specs.Prelude.{◌≡◌, ◌≢◌, ℕ, ◌≤◌, ◌==◌, if
 use Rattle.std.specs.Prelude.{All, AllPairs, Contains, IfSome}
 use Rattle.ats_num.specs.declared.time.Ps.{Ps}
 use Rattle.ats_events.specs.declared.moment.Moment.{Moment}
-use Rattle.ats_events.specs.declared.phase.TheConstants.{TRANSMISSION_END, ARRIVAL, ELIGIBLE, SELECTION}
+use Rattle.ats_events.specs.declared.phase.TheConstants.{ARRIVAL, ELIGIBLE, SELECTION}
 use Rattle.ats_engine_steps.specs.Course.{Course, stage_at, turn_at}
 use Rattle.ats_engine_steps.specs.declared.event.Event.{Event}
-use Rattle.ats_engine_steps.specs.declared.event.Event.TheVariants.{End, Arrival, Eligibility, Selection}
+use Rattle.ats_engine_steps.specs.declared.event.Event.TheVariants.{Arrival, Eligibility, Selection}
 use Rattle.ats_engine_steps.specs.declared.stage.Stage.{Stage}
-use Rattle.ats_engine_steps.specs.declared.stage.Stage.TheVariants.{Coming, Due, Sending}
+use Rattle.ats_engine_steps.specs.declared.stage.Stage.TheVariants.{Coming, Due}
 use Rattle.ats_engine_steps.specs.declared.turn.Turn.{Turn}
 use Rattle.ats_engine_steps.specs.declared.turn.Turn.TheVariants.{Selecting}
 
 -- the moments of a leg or a port with this number
-abbrev pub end_moment : ℕ → Ps → Moment
-end_moment row at = record { at = at; phase = TRANSMISSION_END; id = row }
-
 abbrev pub arrival_moment : ℕ → Ps → Moment
 arrival_moment row at = record { at = at; phase = ARRIVAL; id = row }
 
@@ -26,7 +23,6 @@ selection_moment port at = record { at = at; phase = SELECTION; id = port }
 
 -- the moment of an event at a time
 abbrev pub moment_at : Event → Ps → Moment
-moment_at (End row) at = end_moment row at
 moment_at (Arrival row) at = arrival_moment row at
 moment_at (Eligibility row) at = eligible_moment row at
 moment_at (Selection port) at = selection_moment port at
@@ -34,12 +30,10 @@ moment_at (Selection port) at = selection_moment port at
 -- the event that happens at a moment: its phase and its number tell it
 abbrev pub event_of : Moment → Event
 event_of moment =
-    if moment.phase == TRANSMISSION_END then End moment.id
-    else (if moment.phase == ARRIVAL then Arrival moment.id
-    else (if moment.phase == ELIGIBLE then Eligibility moment.id else Selection moment.id))
+    if moment.phase == ARRIVAL then Arrival moment.id
+    else (if moment.phase == ELIGIBLE then Eligibility moment.id else Selection moment.id)
 
--- when a frame at this stage of a leg arrives, becomes eligible, or has been sent; no more than one of them is still to
--- happen
+-- when a frame at this stage of a leg arrives, or becomes eligible; no more than one of them is still to happen
 abbrev pub arrival_by : ℕ → Stage → Option Moment
 arrival_by row (Coming at) = Some (arrival_moment row at)
 arrival_by row stage = None
@@ -48,10 +42,6 @@ abbrev pub eligibility_by : ℕ → Stage → Option Moment
 eligibility_by row (Due at) = Some (eligible_moment row at)
 eligibility_by row stage = None
 
-abbrev pub end_by : ℕ → Stage → Option Moment
-end_by row (Sending until) = Some (end_moment row until)
-end_by row stage = None
-
 -- when a port selects
 abbrev pub selection_by : ℕ → Turn → Option Moment
 selection_by port (Selecting at) = Some (selection_moment port at)
@@ -59,7 +49,6 @@ selection_by port turn = None
 
 -- when an event is to happen, if it is
 abbrev pub moment_of : {T : Type 0} → Course T → Event → Option Moment
-moment_of course (End row) = end_by row (stage_at course row)
 moment_of course (Arrival row) = arrival_by row (stage_at course row)
 moment_of course (Eligibility row) = eligibility_by row (stage_at course row)
 moment_of course (Selection port) = selection_by port (turn_at course port)

@@ -13,7 +13,7 @@ use Rattle.ats_trace.specs.declared.journey.Release.{Release}
 use Rattle.ats_run_records.specs.Progress.{Progress, progress_at}
 use Rattle.ats_engine_steps.specs.Course.{Course, path_of, sender_of}
 use Rattle.ats_engine_steps.specs.declared.stage.Stage.{Stage}
-use Rattle.ats_engine_steps.specs.declared.stage.Stage.TheVariants.{Apart, Coming, Due, Waiting, Sending, Over}
+use Rattle.ats_engine_steps.specs.declared.stage.Stage.TheVariants.{Apart, Coming, Due, Waiting, Over}
 
 -- a hop record of a frame that is eligible at this time and was not sent yet
 pub record IsDueAt (e : Ps) (hop : HopRecord) : Type 0 where
@@ -26,14 +26,7 @@ pub record IsUnsent (hop : HopRecord) : Type 0 where
   pub verdict : hop.verdict ≡ Eligible eligible
   pub sent : hop.sent ≡ None
 
--- one that was sent, until this time
-pub record IsSentUntil (until : Ps) (hop : HopRecord) : Type 0 where
-  pub eligible : Ps
-  pub start : Ps
-  pub verdict : hop.verdict ≡ Eligible eligible
-  pub sent : hop.sent ≡ Some (start, until)
-
--- or until some time
+-- one that was sent
 pub record IsSent (hop : HopRecord) : Type 0 where
   pub eligible : Ps
   pub times : Ps × Ps
@@ -88,7 +81,6 @@ IsAtStage path start progress (Coming at) =
     IsOpen (Goes path progress.hops × BeginsBy progress.leg progress.release start progress.hops at) progress
 IsAtStage path start progress (Due at) = StandsBy (IsDueAt at) path start progress
 IsAtStage path start progress Waiting = StandsBy IsUnsent path start progress
-IsAtStage path start progress (Sending until) = StandsBy (IsSentUntil until) path start progress
 IsAtStage path start progress Over = IsWhole path start progress
 
 -- the record that a frame has at the hop where one of its legs begins, if it came there; nothing leads to the trunk

@@ -1,13 +1,12 @@
-use Rattle.std.specs.Prelude.{◌≡◌, ℕ, ◌+◌, ◌≤◌, max, All}
+use Rattle.std.specs.Prelude.{◌≡◌, ℕ, ◌+◌, max}
 use Rattle.ats_num.specs.declared.time.TheConstants.{END}
 use Rattle.ats_topology.specs.Port.{port_at, spread_of}
 use Rattle.ats_topology.specs.declared.port.Port.{Port}
 use Rattle.ats_network.specs.Network.{DeclaredNetwork}
 use Rattle.ats_trace.specs.Links.{KeepsLinkRule, KeepsPace, in_order_from}
-use Rattle.ats_trace.specs.Projections.{Crossing}
 use Rattle.ats_engine_steps.specs.Course.{Course, crossings_so_far, arrives_from_at}
 
--- when a frame arrives behind a port that has sent it until this time, where the next frame may arrive from `from` on
+-- when a frame arrives behind a port that sends it until this time, where the next frame may arrive from `from` on
 abbrev pub arrival_behind : (ℕ → ℕ → ℕ) → Port → ℕ → ℕ → ℕ → ℕ
 arrival_behind wait port frame end from = max (end + port.earliest.0 + wait frame (spread_of port)) from
 
@@ -17,4 +16,3 @@ pub record IsPaced {T : Type 0} (wait : ℕ → ℕ → ℕ) (network : Declared
   pub rule : KeepsLinkRule (port_at network.topology.ports port) (crossings_so_far network course port)
   pub pace : KeepsPace wait (port_at network.topology.ports port) (crossings_so_far network course port)
   pub next : arrives_from_at course port ≡ in_order_from END (crossings_so_far network course port)
-  pub ended : All (λ (x : Crossing). x.sent.end ≤ course.last.at.0) (crossings_so_far network course port)

@@ -1,21 +1,20 @@
-use Rattle.std.specs.Prelude.{◌≡◌, ◌≢◌, ℕ, ◌<◌, ◌≤◌, ◌==◌, ◌&&◌, Bool, true, false, List, [], length, map}
+use Rattle.std.specs.Prelude.{◌≡◌, ◌≢◌, ℕ, ◌<◌, ◌≤◌, ◌==◌, ◌&&◌, Bool, false, List, [], length, map}
 use Rattle.std.specs.Prelude.{◌++◌, take, slice_index, slice_index_or, count_by, All, AllPairs, Contains, IsPermutation}
 use Rattle.std.specs.List.{list_any}
-use Rattle.ats_num.specs.declared.time.Ps.{Ps}
 use Rattle.ats_topology.specs.Port.{port_at}
 use Rattle.ats_network.specs.Network.{DeclaredNetwork}
 use Rattle.ats_network.specs.Class.{class_at}
-use Rattle.ats_transmit.specs.Sending.{last_of, last_start, last_end, transmissions}
+use Rattle.ats_transmit.specs.Sending.{last_start, transmissions}
 use Rattle.ats_transmit.specs.State.{PortState, opened, IsLawfulPort}
 use Rattle.ats_transmit.specs.Picks.{IsFirstStart}
 use Rattle.ats_transmit.specs.declared.offer.Offer.{Offer}
 use Rattle.ats_transmit.specs.declared.sent.Sent.{Sent}
 use Rattle.ats_events.specs.declared.phase.TheConstants.{SELECTION}
-use Rattle.ats_run_records.specs.Progress.{Progress, progress_at}
+use Rattle.ats_run_records.specs.Progress.{Progress}
 use Rattle.ats_engine_steps.specs.Course.{Course, sent_so_far, stage_at, turn_at, place_at, offer_at, sender_of}
-use Rattle.ats_engine_steps.specs.declared.stage.Stage.TheVariants.{Waiting, Sending}
+use Rattle.ats_engine_steps.specs.declared.stage.Stage.TheVariants.{Waiting}
 use Rattle.ats_engine_steps.specs.declared.turn.Turn.{Turn}
-use Rattle.ats_engine_steps.specs.declared.turn.Turn.TheVariants.{Resting, Selecting, Occupied}
+use Rattle.ats_engine_steps.specs.declared.turn.Turn.TheVariants.{Resting, Selecting}
 
 -- the standing of a port; for numbers past the last port, that of an empty one
 abbrev pub port_state_at : {T : Type 0} → Course T → ℕ → PortState T
@@ -31,11 +30,10 @@ abbrev pub room_of : {T : Type 0} → DeclaredNetwork → Course T → ℕ → �
 room_of network course port class =
     count_by (passes network port class) (take (length course.firsts) course.records)
 
--- a port does next what its turn says
+-- a port does next what its turn says: nothing where it holds no frame, and else it selects when it can first start one
 abbrev pub IsTurn : {T : Type 0} → PortState T → Turn → Type 0
-IsTurn standing Resting = (standing.is_sending ≡ false) × (standing.held ≡ [])
-IsTurn standing (Selecting at) = (standing.is_sending ≡ false) × IsFirstStart standing.held standing.sent at.0
-IsTurn standing Occupied = standing.is_sending ≡ true
+IsTurn standing Resting = standing.held ≡ []
+IsTurn standing (Selecting at) = IsFirstStart standing.held standing.sent at.0
 
 -- a frame waits at a port of one of its legs, to which it was offered so
 pub record IsHeld {T : Type 0} (network : DeclaredNetwork) (course : Course T) (port : ℕ) (offer : Offer)
@@ -45,21 +43,6 @@ pub record IsHeld {T : Type 0} (network : DeclaredNetwork) (course : Course T) (
   pub stage : stage_at course row ≡ Waiting
   pub place : place_at network course row ≡ port
   pub same : offer_at network course row ≡ offer
-
--- the frame is the one that a port sends
-pub record IsUnderWay {T : Type 0} (network : DeclaredNetwork) (course : Course T) (port : ℕ) (sent : Sent)
-    : Type 0 where
-  pub row : ℕ
-  pub within : row < length course.records
-  pub named : (progress_at course.records row).frame ≡ sent.frame
-  pub stage : stage_at course row ≡ Sending sent.end
-  pub place : place_at network course row ≡ port
-
--- a port sends this frame
-pub record Sends {T : Type 0} (standing : PortState T) (frame until : ℕ) : Type 0 where
-  pub sending : standing.is_sending ≡ true
-  pub named : (last_of standing.sent).frame ≡ frame
-  pub end : last_end standing.sent ≡ until
 
 -- the numbers of all frames that a port was offered
 abbrev pub frames_at : {T : Type 0} → PortState T → List ℕ
@@ -87,27 +70,20 @@ pub record HoldsWaiting {T : Type 0} (network : DeclaredNetwork) (course : Cours
       → place_at network course row ≡ port → Contains standing.held (offer_at network course row)
   pub apart : AllPairs (λ (x y : ℕ). x ≢ y) (frames_at standing)
 
--- a port sends the frame that is being sent there
-pub record SendsThere {T : Type 0} (network : DeclaredNetwork) (course : Course T) (port : ℕ) (standing : PortState T)
-    : Type 0 where
-  pub under_way : standing.is_sending ≡ true → IsUnderWay network course port (last_of standing.sent)
-  pub sending : (row : ℕ) (until : Ps) → row < length course.records → stage_at course row ≡ Sending until
-      → place_at network course row ≡ port → Sends standing (progress_at course.records row).frame until.0
-
--- a port's last start is no later than the last event, and where it is at that time, that was a selection or later; a
--- finished transmission has ended by then, and each frame that it holds was eligible
+-- a port's last start is no later than the last event, and where it is at that time, that was a selection or later;
+-- each frame that it holds was eligible by then
 pub record IsInStep {T : Type 0} (course : Course T) (standing : PortState T) : Type 0 where
   pub started : 0 < length standing.sent → last_start standing.sent ≤ course.last.at.0
   pub selected : 0 < length standing.sent → last_start standing.sent ≡ course.last.at.0 → SELECTION ≤ course.last.phase
-  pub ended : standing.is_sending ≡ false → last_end standing.sent ≤ course.last.at.0
   pub eligible : All (λ (o : Offer). o.eligible.0 ≤ course.last.at.0) standing.held
 
--- what a port that has these frames has to do with the run; it does next what its turn says
+-- what a port that has these frames has to do with the run; it does next what its turn says, and no transmission of it
+-- has still to be finished
 pub record IsPortOf {T : Type 0} (key : T → ℕ → ℕ → ℕ) (network : DeclaredNetwork) (course : Course T) (port : ℕ)
     (standing : PortState T) : Type 0 where
   pub of_network : IsOfNetwork network course port standing
   pub past : HasSentSoFar key network course port standing
   pub holding : HoldsWaiting network course port standing
-  pub sends : SendsThere network course port standing
   pub turn : IsTurn standing (turn_at course port)
+  pub free : standing.is_sending ≡ false
   pub times : IsInStep course standing

@@ -14,7 +14,7 @@ use Rattle.ats_group.specs.GroupsState.{GroupsState, verdict_of, value_after}
 use Rattle.ats_group.specs.declared.verdict.Verdict.{Verdict}
 use Rattle.ats_group.specs.declared.verdict.Verdict.TheVariants.{Eligible, Size}
 use Rattle.ats_schedulers.specs.Schedulers.{scheduler_of}
-use Rattle.ats_transmit.specs.Picks.{Starts}
+use Rattle.ats_transmit.specs.Picks.{IsFirstStart, Starts}
 use Rattle.ats_transmit.specs.State.{PortState, IsLawfulPort}
 use Rattle.ats_trace.specs.Eligibility.{declared_by}
 use Rattle.ats_trace.specs.Journey.{legs_at}
@@ -23,15 +23,15 @@ use Rattle.ats_trace.specs.declared.journey.Ending.TheVariants.{Sink}
 use Rattle.ats_trace.specs.HopRecord.{HopRecord}
 use Rattle.ats_run_records.specs.Progress.{Progress, progress_at, with_hop, with_sent, with_ending}
 use Rattle.ats_engine_steps.specs.Course.{Course, place_at, offer_at, turn_at, arrives_from_at, sender_of, path_of}
-use Rattle.ats_engine_steps.specs.Entries.{arrival_moment, eligible_moment, end_moment, selection_moment}
+use Rattle.ats_engine_steps.specs.Entries.{arrival_moment, eligible_moment, selection_moment}
 use Rattle.ats_engine_steps.specs.Paces.{arrival_behind}
 use Rattle.ats_engine_steps.specs.Ports.{IsTurn, port_state_at}
 use Rattle.ats_engine_steps.specs.declared.event.Event.{Event}
-use Rattle.ats_engine_steps.specs.declared.event.Event.TheVariants.{End, Arrival, Eligibility, Selection}
+use Rattle.ats_engine_steps.specs.declared.event.Event.TheVariants.{Arrival, Eligibility, Selection}
 use Rattle.ats_engine_steps.specs.declared.stage.Stage.{Stage}
-use Rattle.ats_engine_steps.specs.declared.stage.Stage.TheVariants.{Coming, Due, Waiting, Sending, Over}
+use Rattle.ats_engine_steps.specs.declared.stage.Stage.TheVariants.{Coming, Due, Waiting, Over}
 use Rattle.ats_engine_steps.specs.declared.turn.Turn.{Turn}
-use Rattle.ats_engine_steps.specs.declared.turn.Turn.TheVariants.{Resting, Selecting, Occupied}
+use Rattle.ats_engine_steps.specs.declared.turn.Turn.TheVariants.{Resting, Selecting}
 
 -- what a step does to one leg: how far the frame is along it then, what has happened there, and what is to happen
 pub record Move : Type 0 where
@@ -163,31 +163,34 @@ pub record Comes {T : Type 0} (network : DeclaredNetwork) (old new : Course T) (
   }
   pub brings : due ≡ due_by verdict
 
--- the turn of a port that was offered a frame
+-- the turn of a port that was offered a frame: one that rested selects then
 abbrev pub turn_once_offered : Turn → Ps → Turn
 turn_once_offered Resting at = Selecting at
 turn_once_offered turn at = turn
 
--- a resting port selects then
+-- and this selection is to happen
 abbrev pub selections_once_offered : ℕ → Turn → Ps → List (Moment × Event)
 selections_once_offered port Resting at = (selection_moment port at, Selection port) ∷ []
 selections_once_offered port turn at = []
 
--- a frame becomes eligible along a leg: its port holds it from now on
+-- a frame becomes eligible along a leg: its port holds it from now on, and where it has rested it selects when it can
+-- first start a frame
 pub record BecomesEligible {T : Type 0} (key : T → ℕ → ℕ → ℕ) (network : DeclaredNetwork)
     (old new : Course T) (now : Moment) (row : ℕ) (entries : List (Moment × Event)) : Type 0 where
   pub port : ℕ
   pub standing : PortState T
+  pub at : Ps
   pub place : place_at network old row ≡ port
   pub held : IsPermutation (offer_at network old row ∷ (port_state_at old port).held) standing.held
   pub rest : standing ≡ record (port_state_at old port) { held = standing.held }
   pub lawful : IsLawfulPort key standing
+  pub next : turn_at old port ≡ Resting → IsFirstStart standing.held standing.sent at.0
   pub becomes : new ≡ with_port (moved old now row (record {
     stage = Waiting;
     progress = progress_at old.records row;
     entries = [];
-  })) port standing (turn_once_offered (turn_at old port) now.at)
-  pub brings : entries ≡ selections_once_offered port (turn_at old port) now.at
+  })) port standing (turn_once_offered (turn_at old port) at)
+  pub brings : entries ≡ selections_once_offered port (turn_at old port) at
 
 -- a port and a frame that passes it name a leg: that of the frame which has the port, with this row
 pub record IsLegAt {T : Type 0} (network : DeclaredNetwork) (course : Course T) (frame port row : ℕ) : Type 0 where
@@ -196,24 +199,7 @@ pub record IsLegAt {T : Type 0} (network : DeclaredNetwork) (course : Course T) 
   pub has : Contains (leg_at (legs_at network (progress_at course.records frame).release.sender) leg) port
   pub is : row ≡ row_of course.firsts frame leg
 
--- a port selects: one of the frames that it holds is sent from now on
-pub record Selects {T : Type 0} (key : T → ℕ → ℕ → ℕ) (network : DeclaredNetwork) (old new : Course T) (now : Moment)
-    (port : ℕ) (entries : List (Moment × Event)) : Type 0 where
-  pub frame : ℕ
-  pub row : ℕ
-  pub end : Ps
-  pub standing : PortState T
-  pub starts : Starts (key old.tie) (port_state_at old port) standing now.at.0 frame end.0
-  pub named : IsLegAt network old frame port row
-  pub lawful : IsLawfulPort key standing
-  pub becomes : new ≡ with_port (moved old now row (record {
-    stage = Sending end;
-    progress = with_sent (progress_at old.records row) now.at end;
-    entries = [];
-  })) port standing Occupied
-  pub brings : entries ≡ (end_moment row end, End row) ∷ []
-
--- a frame that was sent arrives behind the port at this time: at the next port of the leg, or at the leg's listener
+-- a frame that is sent arrives behind the port at this time: at the next port of the leg, or at the leg's listener
 abbrev pub leaves_for : DeclaredNetwork → ℕ → Progress → Ps → Move
 leaves_for network row progress at =
     if length progress.hops == length (path_of network progress)
@@ -224,21 +210,26 @@ leaves_for network row progress at =
       entries = (arrival_moment row at, Arrival row) ∷ [];
     }
 
--- a transmission ends: the frame is on its way behind the port, which is free
-pub record Ends {T : Type 0} (key : T → ℕ → ℕ → ℕ) (wait : ℕ → ℕ → ℕ) (network : DeclaredNetwork)
-    (old new : Course T) (now : Moment) (row : ℕ) (entries : List (Moment × Event)) : Type 0 where
-  pub port : ℕ
+-- a port selects: one of the frames that it holds is sent from now on, along the leg that they name. So it is known at
+-- once until when the port is sending it, how it is standing then, and when the frame arrives behind it
+pub record Selects {T : Type 0} (key : T → ℕ → ℕ → ℕ) (wait : ℕ → ℕ → ℕ) (network : DeclaredNetwork)
+    (old new : Course T) (now : Moment) (port : ℕ) (entries : List (Moment × Event)) : Type 0 where
+  pub frame : ℕ
+  pub row : ℕ
+  pub end : Ps
   pub arrival : Ps
+  pub sending : PortState T
   pub standing : PortState T
   pub turn : Turn
   pub move : Move
-  pub place : place_at network old row ≡ port
-  pub arrives : arrival.0 ≡ arrival_behind wait (port_at network.topology.ports port)
-      (progress_at old.records row).frame now.at.0 (arrives_from_at old port)
-  pub free : standing ≡ record (port_state_at old port) { is_sending = false }
+  pub starts : Starts (key old.tie) (port_state_at old port) sending now.at.0 frame end.0
+  pub finished : standing ≡ record sending { is_sending = false }
   pub lawful : IsLawfulPort key standing
+  pub named : IsLegAt network old frame port row
+  pub arrives : arrival.0 ≡ arrival_behind wait (port_at network.topology.ports port) frame end.0
+      (arrives_from_at old port)
   pub next : IsTurn standing turn
-  pub is : move ≡ leaves_for network row (progress_at old.records row) arrival
+  pub is : move ≡ leaves_for network row (with_sent (progress_at old.records row) now.at end) arrival
   pub becomes : new ≡ record (with_port (moved old now row move) port standing turn) {
     arrives_from = slice_set old.arrives_from port (record { 0 = arrival.0 + 1 });
   }

@@ -4,14 +4,12 @@ ghost use Rattle.std.specs.Prelude.{◌≡◌};
 ghost use Rattle.ats_engine_steps.specs.Entries.{moment_at, event_of};
 
 use ats_events::Moment;
-use ats_events::phase::{ARRIVAL, ELIGIBLE, SELECTION, TRANSMISSION_END};
+use ats_events::phase::{ARRIVAL, ELIGIBLE, SELECTION};
 use ats_num::Ps;
 
 /// What happens at a moment of a run. Legs of frames are named by their rows, and ports by their numbers.
 #[derive(Clone, Copy, Debug, PartialEq, Eq)]
 pub enum Event {
-    /// The transmission of a frame along this leg ends.
-    End(u32),
     /// A frame comes to the next port of this leg, or is released.
     Arrival(u32),
     /// A frame becomes eligible along this leg.
@@ -25,9 +23,6 @@ impl Event {
     pub fn of(moment: Moment) -> Event
         ensures { result ≡ event_of moment }
     {
-        if moment.phase == TRANSMISSION_END {
-            return Event::End(moment.id);
-        }
         if moment.phase == ARRIVAL {
             return Event::Arrival(moment.id);
         }
@@ -42,7 +37,6 @@ impl Event {
         ensures { result ≡ (moment_at self time, self) }
     {
         let (phase, id) = match self {
-            Event::End(row) => (TRANSMISSION_END, row),
             Event::Arrival(row) => (ARRIVAL, row),
             Event::Eligibility(row) => (ELIGIBLE, row),
             Event::Selection(port) => (SELECTION, port),

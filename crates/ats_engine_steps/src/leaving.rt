@@ -1,6 +1,6 @@
-//! What becomes of a frame, and of its port, when the frame was sent.
+//! What becomes of a frame, and of its port, when the frame is sent.
 
-ghost use Rattle.std.specs.Prelude.{◌≡◌, ◌+◌, ◌<◌, ◌≤◌, false, length, slice_set};
+ghost use Rattle.std.specs.Prelude.{◌≡◌, ◌+◌, ◌<◌, ◌≤◌, length, slice_set};
 ghost use Rattle.std.specs.Option.{option_to_list};
 ghost use Rattle.ats_num.specs.declared.time.TheConstants.{END};
 ghost use Rattle.ats_num.specs.declared.pace.TheConstants.{MAX_SPREAD};
@@ -23,7 +23,7 @@ use ats_topology::Port as Link;
 use ats_trace::Ending;
 use ats_transmit::Port;
 
-/// When a frame arrives behind a port that has sent it until `end`, where the next frame may arrive
+/// When a frame arrives behind a port that sends it until `end`, where the next frame may arrive
 /// from `from` on.
 pub(crate) fn arrival_behind<P: Pace>(link: &Link, pace: &P, frame: u32, end: Ps, from: Ps) -> Ps
     requires spread { spread_of link.now ≤ MAX_SPREAD }
@@ -46,9 +46,8 @@ pub(crate) fn link_of(net: &Network, port: u32) -> Link
     net.topology().ports()[port as usize]
 }
 
-/// What a free port does next.
+/// What a port does next, once its last transmission is finished.
 pub(crate) fn turn_of<T: Tie>(port: &Port<T>) -> Turn
-    requires { port.now.is_sending ≡ false }
     ensures { IsTurn port.now result }
 {
     match port.due() {
@@ -64,11 +63,10 @@ pub(crate) fn selection_of(port: u32, turn: Turn) -> Option<(Moment, Event)>
     match turn {
         Turn::Selecting(at) => Some(Event::Selection(port).at(at)),
         Turn::Resting => None,
-        Turn::Occupied => None,
     }
 }
 
-/// A frame that was sent along a leg arrives behind the port at this time: at the next port of the leg, or at
+/// A frame that is sent along a leg arrives behind the port at this time: at the next port of the leg, or at
 /// the leg's listener.
 pub(crate) fn leave(
     net: &Network,

@@ -14,5 +14,5 @@ pub mod turn;
 pub use event::Event;
 pub use stage::Stage;
 pub use state::State;
-pub use steps::{become_eligible, come, end, row_begun, select};
+pub use steps::{become_eligible, come, row_begun, select};
 pub use turn::Turn;

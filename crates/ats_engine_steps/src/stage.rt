@@ -7,14 +7,13 @@ use ats_num::Ps;
 pub enum Stage {
     /// It has not come to where the leg begins, which is a branch.
     Apart,
-    /// It comes to the next port of the leg at this time, and to the first one of the trunk when it is released.
+    /// It comes to the next port of the leg at this time, from when the port before sends it on; and to the first one
+    /// of the trunk when it is released.
     Coming(Ps),
     /// It came to a port, where it becomes eligible at this time.
     Due(Ps),
     /// A port holds it.
     Waiting,
-    /// A port sends it until this time.
-    Sending(Ps),
     /// Its way along the leg has ended.
     Over,
 }

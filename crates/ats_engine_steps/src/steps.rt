@@ -1,14 +1,14 @@
 //! What each kind of event makes of a run. Each function gives what is to happen then.
 
-ghost use Rattle.std.specs.Prelude.{◌≡◌, ◌<◌, ◌≤◌, [], ◌∷◌, ◌++◌, length, IsTrue};
+ghost use Rattle.std.specs.Prelude.{◌≡◌, ◌<◌, ◌≤◌, ◌++◌, length, IsTrue};
 ghost use Rattle.std.specs.Option.{option_to_list};
 ghost use Rattle.ats_network.specs.Network.{senders_of};
 ghost use Rattle.ats_trace.specs.Stored.{row_of};
 ghost use Rattle.ats_run_records.specs.Progress.{progress_at};
-ghost use Rattle.ats_engine_steps.specs.Conditions.{HasRoom, MayComeNow, MayBeOffered, MayEnd, MaySelect};
+ghost use Rattle.ats_engine_steps.specs.Conditions.{HasRoom, MayComeNow, MayBeOffered, MaySelect};
 ghost use Rattle.ats_engine_steps.specs.Course.{sender_of};
 ghost use Rattle.ats_engine_steps.specs.Seen.{course_of};
-ghost use Rattle.ats_engine_steps.specs.Steps.{BecomesEligible, Comes, Ends, Selects, begins_in, entered, row_begun};
+ghost use Rattle.ats_engine_steps.specs.Steps.{BecomesEligible, Comes, Selects, begins_in, entered, row_begun};
 
 use crate::event::Event;
 use crate::judging::judge;
@@ -109,66 +109,51 @@ pub fn become_eligible<T: Tie>(
 {
     let offer = offer_of(net, &state.records, row);
     let port = place_of(net, &state.records, row);
-    state.ports[port as usize].offer(offer);
     state.stages[row as usize] = Stage::Waiting;
     state.last = now;
     let turn = state.turns[port as usize];
+    let standing = &mut state.ports[port as usize];
+    standing.offer(offer);
     match turn {
         Turn::Resting => {
-            state.turns[port as usize] = Turn::Selecting(now.at);
-            Some(Event::Selection(port).at(now.at))
+            let Some(at) = standing.due() else {
+                unreachable!()
+            };
+            state.turns[port as usize] = Turn::Selecting(at);
+            Some(Event::Selection(port).at(at))
         },
         Turn::Selecting(_) => None,
-        Turn::Occupied => None,
     }
 }
 
-/// A port selects: one of the frames that it holds is sent from now on, along the leg that has the port, until the
-/// moment that this gives.
-pub fn select<T: Tie>(
-    net: &Network,
-    state: &mut State<T>,
-    now: Moment,
-    port: u32,
-) -> (Moment, Event)
-    requires { MaySelect net.now (course_of state.old) now.at.0 port }
-    ensures { Selects T.key net.now (course_of state.old) (course_of state.new) now port (result ∷ []) }
-{
-    let pick = state.ports[port as usize].select(now.at);
-    let Pick::Start { frame, end } = pick else {
-        unreachable!()
-    };
-    let leg = leg_with(net, state.records.release(frame).sender, port);
-    let row = state.records.row_of(frame, leg);
-    state.turns[port as usize] = Turn::Occupied;
-    state.stages[row as usize] = Stage::Sending(end);
-    state.records.send(row, now.at, end);
-    state.last = now;
-    Event::End(row).at(end)
-}
-
-/// The transmission of a frame along a leg ends: the frame is on its way behind the port, and this gives the
-/// moment at which it arrives there, where that is at a port; and the moment at which the port
-/// selects again, where it holds a frame.
-pub fn end<T: Tie, P: Pace>(
+/// A port selects: one of the frames that it holds is sent from now on, along the leg that has the port. This gives the
+/// moment at which the frame arrives behind the port, where that is at a port; and the moment at which the port selects
+/// again, where it holds a frame.
+pub fn select<T: Tie, P: Pace>(
     net: &Network,
     state: &mut State<T>,
     pace: &P,
     now: Moment,
-    row: u32,
+    port: u32,
 ) -> (Option<(Moment, Event)>, Option<(Moment, Event)>)
-    requires { MayEnd net.now (course_of state.old) now.at.0 row }
-    ensures { Ends T.key (P.wait pace.now) net.now (course_of state.old) (course_of state.new) now row
+    requires { MaySelect net.now (course_of state.old) now.at.0 port }
+    ensures { Selects T.key (P.wait pace.now) net.now (course_of state.old) (course_of state.new) now port
         (option_to_list result.0 ++ option_to_list result.1) }
 {
-    let port = place_of(net, &state.records, row);
     let standing = &mut state.ports[port as usize];
-    standing.finish(now.at);
+    let pick = standing.select(now.at);
+    let Pick::Start { frame, end } = pick else {
+        unreachable!()
+    };
+    standing.finish(end);
     let turn = turn_of(standing);
     state.turns[port as usize] = turn;
+    let leg = leg_with(net, state.records.release(frame).sender, port);
+    let row = state.records.row_of(frame, leg);
+    state.records.send(row, now.at, end);
     let link = link_of(net, port);
     let from = state.arrives_from[port as usize];
-    let at = arrival_behind(&link, pace, state.records.frame(row), now.at, from);
+    let at = arrival_behind(&link, pace, frame, end, from);
     state.arrives_from[port as usize] = Ps(at.0 + 1);
     state.last = now;
     let arrival = leave(net, &mut state.stages, &mut state.records, row, at);

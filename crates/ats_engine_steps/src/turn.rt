@@ -5,10 +5,8 @@ use ats_num::Ps;
 /// What a port does next.
 #[derive(Clone, Copy, Debug, PartialEq, Eq)]
 pub enum Turn {
-    /// Nothing: it holds no frame and sends none.
+    /// Nothing: it holds no frame.
     Resting,
-    /// It is free, holds a frame, and selects one at this time.
+    /// It holds a frame, and selects one at this time, by which its last transmission has ended.
     Selecting(Ps),
-    /// It goes on with a transmission.
-    Occupied,
 }

@@ -7,22 +7,24 @@ use Rattle.ats_engine_proofs.proofs.Times.{selects-less}
 use Rattle.ats_engine.proofs.Going.{is-next, may-enter, goes}
 use Rattle.ats_engine.proofs.runner.Runner.select.Goals as goal
 
-pub select-entry-requires : goal.select-entry-requires
-select-entry-requires g c =
+pub select-arrival-requires : goal.select-arrival-requires
+select-arrival-requires g c =
     may-select
     (is-next c.requires g.met.O.TimeOrder.irreflexive g.met.O.TimeOrder.transitive g.met.O.TimeOrder.timed)
 
-pub enter-requires : goal.enter-requires
-enter-requires g c =
+pub enter_both-requires : goal.enter_both-requires
+enter_both-requires g c =
     let next =
     is-next c.requires g.met.O.TimeOrder.irreflexive g.met.O.TimeOrder.transitive g.met.O.TimeOrder.timed in
-    may-enter c.requires g.met.O.TimeOrder.timed (selects-holds next c.select-entry.ensures)
-    (selects-after next c.select-entry.ensures)
+    let within = g.met.P.Pace.within c.args.self.now.pace in
+    may-enter c.requires g.met.O.TimeOrder.timed (selects-holds within next c.select-arrival.ensures)
+    (selects-after next c.select-arrival.ensures)
 
 pub returns : goal.returns
 returns g c =
     let next =
     is-next c.requires g.met.O.TimeOrder.irreflexive g.met.O.TimeOrder.transitive g.met.O.TimeOrder.timed in
-    goes c.select-entry.new.state c.requires (selects-holds next c.select-entry.ensures)
-    (selects-less next c.select-entry.ensures)
-    (ap (λ (course : Course g.row.T.Denot). course.tie) c.select-entry.ensures.becomes) c.enter.ensures
+    let within = g.met.P.Pace.within c.args.self.now.pace in
+    goes c.select-arrival.new.state c.requires (selects-holds within next c.select-arrival.ensures)
+    (selects-less within next c.select-arrival.ensures)
+    (ap (λ (course : Course g.row.T.Denot). course.tie) c.select-arrival.ensures.becomes) c.enter_both.ensures

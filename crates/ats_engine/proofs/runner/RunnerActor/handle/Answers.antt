@@ -2,10 +2,6 @@ use Rattle.std.proofs.Common.{sym, ◌∙◌}
 use Rattle.ats_engine.proofs.Telling.{at-event}
 use Rattle.ats_engine.proofs.runner.RunnerActor.handle.Goals as goal
 
-pub end-requires : goal.end-requires
-end-requires g c =
-    at-event c.args.agenda.now (sym c.of.ensures ∙ c.in-End.is) c.requires.holds c.requires.last c.requires.first
-
 pub come-requires : goal.come-requires
 come-requires g c =
     at-event c.args.agenda.now (sym c.of.ensures ∙ c.in-Arrival.is) c.requires.holds c.requires.last c.requires.first
