@@ -1,0 +1,3 @@
+pub mod Deviating
+pub mod Falling
+pub mod Monotone

@@ -1,0 +1,12 @@
+pub mod ByClock
+pub mod Counted
+pub mod Delayed
+pub mod Enough
+pub mod ExampleProofs
+pub mod Ideal
+pub mod Output
+pub mod Pairs
+pub mod PutBack
+pub mod Retiming
+pub mod Shift
+pub mod TrueTime
