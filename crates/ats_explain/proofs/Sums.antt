@@ -11,6 +11,8 @@ use Rattle.std.proofs.lemmas.List.Sums.{sum_by-cons}
 use Rattle.std.proofs.lemmas.Option.{none-some, same_Some}
 use Rattle.ats_num.specs.declared.time.TheConstants.{PS_PER_SECOND}
 use Rattle.ats_topology.specs.Port.{port_at}
+use Rattle.ats_topology.specs.declared.node.Kind.{Kind}
+use Rattle.ats_topology.specs.declared.node.Kind.TheVariants.{Station, Bridge}
 use Rattle.ats_streams.specs.Branches.{routes_of}
 use Rattle.ats_streams.specs.Rules.{KeepsRules}
 use Rattle.ats_streams.specs.Stream.{DeclaredStream}
@@ -18,6 +20,7 @@ use Rattle.ats_streams.proofs.RouteLemmas.{each_on_routes}
 use Rattle.ats_network.specs.Network.{DeclaredNetwork, IsNetwork, senders_of}
 use Rattle.ats_network.specs.Sender.{Sender, stream_sender}
 use Rattle.ats_network.specs.Class.{PortSender, class_at, seen_at}
+use Rattle.ats_network.specs.Residence.{residence_after, residence_at}
 use Rattle.ats_network.proofs.SenderLemmas.{each_is_sender}
 use Rattle.ats_certificate.specs.PortSums.{PortSums, is_above, is_below, is_of, is_used, least_of, longest, port_sums}
 use Rattle.ats_certificate.specs.PortSums.{senders_at, shortest, uses}
@@ -31,8 +34,8 @@ use Rattle.ats_bound.specs.Least.{least_row, least_certificate}
 use Rattle.ats_bound.proofs.LeastHolds.{least_rows}
 use Rattle.ats_bound.proofs.NoneHolds.{IsLeastOf, each_least, no_none, row_at}
 use Rattle.ats_bound.proofs.Waits.{Fits, least_row-is, least_wait-is, remains}
-use Rattle.ats_explain.specs.Laws.{AreParts, Carries, EachStreamAddsUp, IsOfLongest}
-use Rattle.ats_explain.specs.Parts.{HopIsUsed, parts_at, parts_of_hop}
+use Rattle.ats_explain.specs.Laws.{AreParts, Carries, EachStreamAddsUp, IsOfLongest, IsStayOf, kind_behind}
+use Rattle.ats_explain.specs.Parts.{HopIsUsed, parts_at, parts_of_hop, stay_by}
 use Rattle.ats_explain.specs.Senders.{is_lower_of, lower_name, lower_sender, name_of, sends_lower}
 use Rattle.ats_explain.proofs.Hops.{fits_used, hops_used}
 
@@ -195,6 +198,24 @@ of_longest network port class = by (lower_sender network port class) refl
           first = first.1;
         }
 
+-- the stay of a row, by what its port leads to
+stay_is : (network : DeclaredNetwork) (port : ℕ) (row : Row)
+    → IsStayOf network port row.wait
+    (stay_by (port_at network.topology.ports port) row (residence_after network.topology port))
+stay_is network port row = by (kind_behind network port) refl
+  where
+    by : (kind : Kind) → kind_behind network port ≡ kind
+        → IsStayOf network port row.wait (stay_by (port_at network.topology.ports port) row (residence_at kind))
+    by Station e = e
+    by (Bridge processing_min_ns processing_max_ns residence_ns) e = record {
+      processing_min_ns = processing_min_ns;
+      processing_max_ns = processing_max_ns;
+      residence_ns = residence_ns;
+      bridge = e;
+      need = refl;
+      residence = refl;
+    }
+
 -- the five parts of the bound of a port and a class that are used
 pub parts_add : (network : DeclaredNetwork) (port class : ℕ) → IsNetwork network → Carries network
     → is_used network port class ≡ true → AreParts network port class (parts_at network port class)
@@ -231,6 +252,7 @@ parts_add network port class is carries used =
           add_up (ps * sums.lower) (ps * (sums.bursts - sums.least)) wait (ps * sums.least)
           (port_at network.topology.ports port).latency.0 sent_apart;
       sender = of_longest network port class;
+      stay = stay_is network port (least_row network (port, class));
     }
   where
     rest : (lower bursts wait : ℕ) → lower + bursts ≤ wait → lower + bursts + (wait - (lower + bursts)) ≡ wait

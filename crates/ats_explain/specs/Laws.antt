@@ -1,5 +1,9 @@
 use Rattle.std.specs.Prelude.{◌≡◌, ◌↔◌, ℕ, ◌+◌, ◌*◌, ◌<◌, IsTrue, false, List, sum_by, All, Option, Some, None}
-use Rattle.ats_topology.specs.Port.{port_at}
+use Rattle.ats_num.specs.declared.time.TheConstants.{PS_PER_NS}
+use Rattle.ats_topology.specs.Port.{port_at, spread_of}
+use Rattle.ats_topology.specs.Topology.{node_at}
+use Rattle.ats_topology.specs.declared.node.Kind.{Kind}
+use Rattle.ats_topology.specs.declared.node.Kind.TheVariants.{Station, Bridge}
 use Rattle.ats_streams.specs.Branches.{routes_of}
 use Rattle.ats_streams.specs.Stream.{DeclaredStream}
 use Rattle.ats_network.specs.Sender.{Sender, stream_sender}
@@ -18,6 +22,7 @@ use Rattle.ats_explain.specs.Parts.{parts_of_hop}
 use Rattle.ats_explain.specs.Margins.{margin_on}
 use Rattle.ats_explain.specs.Totals.{late_count, over_count}
 use Rattle.ats_explain.specs.declared.parts.Parts.{Parts}
+use Rattle.ats_explain.specs.declared.parts.Stay.{Stay}
 
 -- no port and class that some stream uses is overloaded
 abbrev pub Carries : DeclaredNetwork → Type 0
@@ -44,9 +49,30 @@ IsOfLongest network port class (Some name) = SendsLongest network port class nam
 IsOfLongest network port class None =
     All (λ s. sends_lower port class (port_sums network port class).lower s ≡ false) (senders_of network)
 
+-- what the node is that a port leads to
+abbrev pub kind_behind : DeclaredNetwork → ℕ → Kind
+kind_behind network port = (node_at network.topology.nodes (port_at network.topology.ports port).to).kind
+
+-- a port leads to a bridge. A frame that may have to wait so long at the port may have to stay there as much longer as
+-- the port's spread, and may stay as long as the bridge's maximum residence time
+pub record IsStayBehind (network : DeclaredNetwork) (port wait : ℕ) (told : Stay) : Type 0 where
+  pub processing_min_ns : ℕ
+  pub processing_max_ns : ℕ
+  pub residence_ns : ℕ
+  pub bridge : kind_behind network port ≡ Bridge processing_min_ns processing_max_ns residence_ns
+  pub need : told.need ≡ wait + spread_of (port_at network.topology.ports port)
+  pub residence : told.residence ≡ PS_PER_NS * residence_ns
+
+-- a stay is told of each port that leads to a bridge, whether frames go on from there or not, and none of one that
+-- leads to a station
+abbrev pub IsStayOf : DeclaredNetwork → ℕ → ℕ → Option Stay → Type 0
+IsStayOf network port wait (Some told) = IsStayBehind network port wait told
+IsStayOf network port wait None = kind_behind network port ≡ Station
+
 -- the parts of a port and a class, each by what it stands for, of the row with the least wait that is enough. lower:
 -- the time of the longest frame of a lower class; frame: that of the shortest frame of the class; bursts: with this
--- frame, the time of the bursts of the class and the higher ones; higher: the rest of the wait; latency: the port's
+-- frame, the time of the bursts of the class and the higher ones; higher: the rest of the wait; latency: the port's.
+-- Beside them stands the stay behind the port
 pub record AreParts (network : DeclaredNetwork) (port class : ℕ) (parts : Parts) : Type 0 where
   pub row : Row
   pub least : IsLeastRow network row
@@ -60,6 +86,7 @@ pub record AreParts (network : DeclaredNetwork) (port class : ℕ) (parts : Part
   pub bound_is : parts.bound ≡ row.bound
   pub add_up : AddUp parts
   pub sender : IsOfLongest network port class parts.sender
+  pub stay : IsStayOf network port row.wait parts.stay
 
 -- at each hop of a stream the parts are those of the port, in the class that the stream has there; they add up to the
 -- bound, and the bounds along the route to each listener to the sum for it
