@@ -67,8 +67,8 @@ listeners_have_bounds = record {
 }
 
 -- by computation, and what the laws say of reasons
-reason_by : (network : DeclaredNetwork) (reason other : Reason) → IsNetwork network → reason_of network ≡ Some reason
-    → reason ≢ other → HasReason network reason other
+pub reason_by : (network : DeclaredNetwork) (reason other : Reason) → IsNetwork network
+    → reason_of network ≡ Some reason → reason ≢ other → HasReason network reason other
 reason_by network reason other rules given differ =
     let first : IsFirstReason network reason = (each_reason_is_the_first network reason rules).0 given in
     record {

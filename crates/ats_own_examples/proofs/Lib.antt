@@ -1,0 +1,10 @@
+pub mod BoundProofs
+pub mod StayProofs
+pub mod RunProofs
+pub mod BurstProofs
+pub mod TextProofs
+pub mod HeldProofs
+pub mod NarrowedProofs
+pub mod MadeProofs
+pub mod AskedProofs
+pub mod CapturedProofs

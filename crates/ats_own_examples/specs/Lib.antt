@@ -1,0 +1,11 @@
+pub mod Networks
+pub mod Bounds
+pub mod Stays
+pub mod Runs
+pub mod Bursts
+pub mod Texts
+pub mod Buffers
+pub mod Narrowed
+pub mod Made
+pub mod Asked
+pub mod Captured
