@@ -7,13 +7,14 @@ use Rattle.ats_csv.specs.Reading.{records_of, same_fields}
 use Rattle.ats_certificate_file.specs.Reading.{header, row_in, row_after}
 use Rattle.ats_network_text.specs.Text.{classes_text}
 use Rattle.ats_schedule.specs.Reading.{header as release_header, release_after}
-use Rattle.ats_edge_examples.specs.Texts.{ClassesAreTold, NumbersAreShort, QuotesAreCut, ShapesAreCut, TablesAreCut}
-use Rattle.ats_edge_examples.specs.Texts.{TextsAreAtEdges}
+use Rattle.ats_edge_examples.specs.Texts.{ClassesAreTold, MarksArePassed, NumbersAreShort, QuotesAreCut, ShapesAreCut}
+use Rattle.ats_edge_examples.specs.Texts.{TablesAreCut, TextsAreAtEdges}
 
 tables_are_cut : TablesAreCut
 unfolding next_record records_from strip_bom records_of same_fields header row_in row_after release_header release_after
 tables_are_cut = record {
   ends = refl;
+  returns = refl;
   no_end = refl;
   quotes = refl;
   blank = refl;
@@ -35,8 +36,13 @@ quotes_are_cut = record {
   line = refl;
   inside = refl;
   behind = refl;
+  unclosed = refl;
   single = refl;
 }
+
+marks_are_passed : MarksArePassed
+unfolding next_record records_from strip_bom records_of
+marks_are_passed = record { one = refl; two = refl; later = refl; part = refl }
 
 shapes_are_cut : ShapesAreCut
 shapes_are_cut = record { zero = refl; mark = refl }
@@ -60,6 +66,7 @@ pub texts_are_at_edges : TextsAreAtEdges
 texts_are_at_edges = record {
   tables = tables_are_cut;
   quotes = quotes_are_cut;
+  marks = marks_are_passed;
   shapes = shapes_are_cut;
   numbers = numbers_are_short;
   classes = classes_are_told;

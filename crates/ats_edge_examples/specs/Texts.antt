@@ -37,10 +37,11 @@ second_line = codes "b2>s2,4,21,22,23,24,25,26,27"
 abbrev pub rows_then : List ℕ → Result (List Row) CertFault
 rows_then lines = rows_of way.topology (header_line ++ codes "\n" ++ first_line ++ codes "\n" ++ lines)
 
--- lines may end in CR LF, the last may have no end, and fields may be in quotes. A line without bytes is no record and
--- is not counted; no other line is passed over, whatever it begins with
+-- lines may end in CR LF, or in CR, the last may have no end, and fields may be in quotes. A line without bytes is no
+-- record and is not counted; no other line is passed over, whatever it begins with
 pub record TablesAreCut : Type 0 where
   pub ends : rows_of way.topology (returned header_line ++ returned first_line ++ returned second_line) ≡ Ok two_rows
+  pub returns : rows_of way.topology (header_line ++ 13 ∷ first_line ++ 13 ∷ second_line ++ 13 ∷ []) ≡ Ok two_rows
   pub no_end : rows_then second_line ≡ Ok two_rows
   pub quotes : rows_then (codes "\"b2>s2\",\"4\",21,22,23,24,25,26,\"27\"\n") ≡ Ok two_rows
   pub blank : rows_of way.topology (header_line ++ codes "\n\n" ++ first_line ++ codes "\n\nx\n") ≡ Err (row.BadRow 3)
@@ -55,7 +56,8 @@ pub record TablesAreCut : Type 0 where
 
 -- quotes begin a field only in front of it; within a field in quotes two of them are one, and a comma and an end of
 -- line are bytes like others; a backslash is one always. What stands behind the last quote belongs to the field.
--- Refuses quotes that are taken out in pairs, and ones that a backslash spares
+-- One that is not closed takes in the rest. Refuses quotes that are taken out in pairs, and ones that a backslash
+-- spares
 pub record QuotesAreCut : Type 0 where
   pub twice : records_of (codes "\"a\"\",b\",c\n") ≡ (codes "a\",b" ∷ codes "c" ∷ []) ∷ []
   pub only : records_of (codes "\"\"\"\",\"\"\n") ≡ (codes "\"" ∷ [] ∷ []) ∷ []
@@ -64,7 +66,19 @@ pub record QuotesAreCut : Type 0 where
   pub line : records_of (codes "\"a\nb\",c\n") ≡ (codes "a\nb" ∷ codes "c" ∷ []) ∷ []
   pub inside : records_of (codes "a\"b\"\"c,d\n") ≡ (codes "a\"b\"\"c" ∷ codes "d" ∷ []) ∷ []
   pub behind : records_of (codes "\"a\"b,c\n") ≡ (codes "ab" ∷ codes "c" ∷ []) ∷ []
+  pub unclosed : records_of (codes "a,\"b,c\nd\"\"e\n") ≡ (codes "a" ∷ codes "b,c\nd\"e\n" ∷ []) ∷ []
   pub single : records_of (codes "'a,b'\n") ≡ (codes "'a" ∷ codes "b'" ∷ []) ∷ []
+
+-- a byte order mark is passed over in front of all records, and it alone: not a second one, nor one that stands
+-- elsewhere or is not whole
+abbrev pub mark : List ℕ
+mark = 0xEF ∷ 0xBB ∷ 0xBF ∷ []
+
+pub record MarksArePassed : Type 0 where
+  pub one : records_of (mark ++ codes "a,b\n") ≡ (codes "a" ∷ codes "b" ∷ []) ∷ []
+  pub two : records_of (mark ++ mark ++ codes "a,b\n") ≡ ((mark ++ codes "a") ∷ codes "b" ∷ []) ∷ []
+  pub later : records_of (codes "a\n" ++ mark ++ codes "b\n") ≡ (codes "a" ∷ []) ∷ ((mark ++ codes "b") ∷ []) ∷ []
+  pub part : records_of (0xEF ∷ 0xBB ∷ codes "a\n") ≡ ((0xEF ∷ 0xBB ∷ codes "a") ∷ []) ∷ []
 
 -- a residence of 0, and a stream whose burst is its longest frame, with a frame at time 0
 abbrev pub at_zero : DeclaredShape
@@ -108,6 +122,7 @@ pub record ClassesAreTold : Type 0 where
 pub record TextsAreAtEdges : Type 0 where
   pub tables : TablesAreCut
   pub quotes : QuotesAreCut
+  pub marks : MarksArePassed
   pub shapes : ShapesAreCut
   pub numbers : NumbersAreShort
   pub classes : ClassesAreTold

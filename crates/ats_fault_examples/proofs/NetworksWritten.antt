@@ -1,7 +1,7 @@
 use Rattle.std.proofs.Common.{refl}
 use Rattle.std.specs.Fmt.{digits}
 use Rattle.ats_fault_examples.specs.Networks.{FormFaultsAreWritten, TopologyFaultsAreWritten, SenderFaultsAreWritten}
-use Rattle.ats_fault_examples.specs.Networks.{NetworkFaultsAreWritten}
+use Rattle.ats_fault_examples.specs.Networks.{FlowsAtPortsAreTold, NetworkFaultsAreWritten, StreamsAtPortsAreTold}
 
 -- Words of faults of network files by computation.
 
@@ -44,9 +44,40 @@ sender_faults_are_written = record {
   identity_twice = refl;
 }
 
+streams_at_ports_are_told : StreamsAtPortsAreTold
+unfolding digits
+streams_at_ports_are_told = record {
+  missing = refl;
+  unknown = refl;
+  kind = refl;
+  too_many = refl;
+  path = refl;
+  bad_class = refl;
+  bad_rate = refl;
+  bad_sizes = refl;
+  short_burst = refl;
+  limit = refl;
+  twice = refl;
+}
+
+flows_at_ports_are_told : FlowsAtPortsAreTold
+unfolding digits
+flows_at_ports_are_told = record {
+  missing = refl;
+  unknown = refl;
+  kind = refl;
+  too_many = refl;
+  path = refl;
+  bad_sizes = refl;
+  limit = refl;
+  twice = refl;
+}
+
 pub network_faults_are_written : NetworkFaultsAreWritten
 network_faults_are_written = record {
   form = form_faults_are_written;
   topology = topology_faults_are_written;
   senders = sender_faults_are_written;
+  streams_at_ports = streams_at_ports_are_told;
+  flows_at_ports = flows_at_ports_are_told;
 }

@@ -60,7 +60,16 @@ release_limits : ReleaseLimits
 release_limits = record { last = refl; more = refl; wider = refl; past = refl }
 
 shape_limits : ShapeLimits
-shape_limits = record { last_stream = refl; stream_over = refl; last_frame = refl; frame_over = refl }
+shape_limits = record {
+  last_stream = refl;
+  stream_over = refl;
+  stream_named = refl;
+  stream_ruled = refl;
+  last_frame = refl;
+  frame_over = refl;
+  frame_unnamed = refl;
+  frame_back = refl;
+}
 
 pub numbers_are_within : NumbersAreWithin
 numbers_are_within = record {

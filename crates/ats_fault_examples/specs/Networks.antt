@@ -44,7 +44,37 @@ pub record SenderFaultsAreWritten : Type 0 where
   pub flow_twice : fault_text (SenderTwice sender.Flow 39) ≡ codes "sender-twice flow 39"
   pub identity_twice : fault_text (IdentityTwice 40) ≡ codes "identity-twice 40"
 
+-- of its streams for each port
+pub record StreamsAtPortsAreTold : Type 0 where
+  pub missing : fault_text (Form (form.Missing table.LinkLocal 41 key.Class)) ≡ codes "missing link_local 41 class"
+  pub unknown : fault_text (Form (form.Unknown table.LinkLocal 42)) ≡ codes "unknown link_local 42"
+  pub kind : fault_text (Form (form.WrongKind table.LinkLocal 43 key.DeadlineNs))
+      ≡ codes "kind link_local 43 deadline_ns"
+  pub too_many : fault_text (Form (form.Limit table.LinkLocal)) ≡ codes "limit link_local"
+  pub path : fault_text (BadPath sender.LinkLocal 44) ≡ codes "bad-path link_local 44"
+  pub bad_class : fault_text (Sender sender.LinkLocal 45 rule.BadClass) ≡ codes "link_local 45 bad-class"
+  pub bad_rate : fault_text (Sender sender.LinkLocal 46 rule.BadRate) ≡ codes "link_local 46 bad-rate"
+  pub bad_sizes : fault_text (Sender sender.LinkLocal 47 rule.BadSizes) ≡ codes "link_local 47 bad-sizes"
+  pub short_burst : fault_text (Sender sender.LinkLocal 48 rule.BurstBelowFrame)
+      ≡ codes "link_local 48 burst-below-frame"
+  pub limit : fault_text (Sender sender.LinkLocal 49 rule.Limit) ≡ codes "link_local 49 limit"
+  pub twice : fault_text (SenderTwice sender.LinkLocal 50) ≡ codes "sender-twice link_local 50"
+
+-- and of its flows for each port
+pub record FlowsAtPortsAreTold : Type 0 where
+  pub missing : fault_text (Form (form.Missing table.LinkLocalFlow 51 key.MaxOctets))
+      ≡ codes "missing link_local_flow 51 max_octets"
+  pub unknown : fault_text (Form (form.Unknown table.LinkLocalFlow 52)) ≡ codes "unknown link_local_flow 52"
+  pub kind : fault_text (Form (form.WrongKind table.LinkLocalFlow 53 key.Name)) ≡ codes "kind link_local_flow 53 name"
+  pub too_many : fault_text (Form (form.Limit table.LinkLocalFlow)) ≡ codes "limit link_local_flow"
+  pub path : fault_text (BadPath sender.LinkLocalFlow 54) ≡ codes "bad-path link_local_flow 54"
+  pub bad_sizes : fault_text (Sender sender.LinkLocalFlow 55 rule.BadSizes) ≡ codes "link_local_flow 55 bad-sizes"
+  pub limit : fault_text (Sender sender.LinkLocalFlow 56 rule.Limit) ≡ codes "link_local_flow 56 limit"
+  pub twice : fault_text (SenderTwice sender.LinkLocalFlow 57) ≡ codes "sender-twice link_local_flow 57"
+
 pub record NetworkFaultsAreWritten : Type 0 where
   pub form : FormFaultsAreWritten
   pub topology : TopologyFaultsAreWritten
   pub senders : SenderFaultsAreWritten
+  pub streams_at_ports : StreamsAtPortsAreTold
+  pub flows_at_ports : FlowsAtPortsAreTold

@@ -7,7 +7,9 @@ use Rattle.ats_command_input.specs.Making.{count_named, seed_named}
 use Rattle.ats_schedule.specs.Reading.{within_limits}
 use Rattle.ats_schedule.specs.declared.fault.ScheduleFault.TheVariants as schedule
 use Rattle.ats_shape.specs.Reading.{DraftShape, frame_line, stream_line}
-use Rattle.ats_shape.specs.declared.fault.ShapeFault.TheVariants.{Limit}
+use Rattle.ats_shape.specs.declared.fault.ShapeFault.TheVariants.{Limit, NameTwice, TimeBack, UnknownName}
+use Rattle.ats_shape.specs.declared.fault.ShapeFault.TheVariants as line
+use Rattle.ats_streams.specs.declared.fault.StreamFault.TheVariants as rule
 use Rattle.ats_text_examples.specs.Shaped.{frame, stream}
 
 -- The texts that write numbers, and how many things one file may declare.
@@ -81,19 +83,24 @@ draft_with streams frames = record {
   frames = replicate frames (frame 5 0 64);
 }
 
--- the words of one stream and of one frame more
-abbrev pub stream_words : List (List ℕ)
-stream_words = codes "stream" ∷ codes "b" ∷ codes "1000" ∷ codes "672" ∷ codes "64" ∷ codes "64" ∷ []
+-- the words of one stream more, by its name and its rate, and of one frame more, by its time and its name
+abbrev pub stream_words : List ℕ → List ℕ → List (List ℕ)
+stream_words name rate = codes "stream" ∷ name ∷ rate ∷ codes "672" ∷ codes "64" ∷ codes "64" ∷ []
 
-abbrev pub frame_words : List (List ℕ)
-frame_words = codes "frame" ∷ codes "5" ∷ codes "a" ∷ codes "64" ∷ []
+abbrev pub frame_words : List ℕ → List ℕ → List (List ℕ)
+frame_words at name = codes "frame" ∷ at ∷ name ∷ codes "64" ∷ []
 
--- the last of each that there may be, and one more
+-- the last of each that there may be, and one more, of which that is told behind all other faults of its line
 pub record ShapeLimits : Type 0 where
-  pub last_stream : IsOk (stream_line (draft_with 4095 0) 9 stream_words)
-  pub stream_over : stream_line (draft_with 4096 0) 9 stream_words ≡ Err (Limit 9)
-  pub last_frame : IsOk (frame_line (draft_with 1 199999) 9 frame_words)
-  pub frame_over : frame_line (draft_with 1 200000) 9 frame_words ≡ Err (Limit 9)
+  pub last_stream : IsOk (stream_line (draft_with 4095 0) 9 (stream_words (codes "b") (codes "1000")))
+  pub stream_over : stream_line (draft_with 4096 0) 9 (stream_words (codes "b") (codes "1000")) ≡ Err (Limit 9)
+  pub stream_named : stream_line (draft_with 4096 0) 9 (stream_words (codes "a") (codes "0")) ≡ Err (NameTwice 9)
+  pub stream_ruled : stream_line (draft_with 4096 0) 9 (stream_words (codes "b") (codes "0"))
+      ≡ Err (line.Stream 9 rule.BadRate)
+  pub last_frame : IsOk (frame_line (draft_with 1 199999) 9 (frame_words (codes "5") (codes "a")))
+  pub frame_over : frame_line (draft_with 1 200000) 9 (frame_words (codes "5") (codes "a")) ≡ Err (Limit 9)
+  pub frame_unnamed : frame_line (draft_with 1 200000) 9 (frame_words (codes "4") (codes "b")) ≡ Err (UnknownName 9)
+  pub frame_back : frame_line (draft_with 1 200000) 9 (frame_words (codes "4") (codes "a")) ≡ Err (TimeBack 9)
 
 pub record NumbersAreWithin : Type 0 where
   pub numbers : NumbersAreRead

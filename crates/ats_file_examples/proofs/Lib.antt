@@ -14,4 +14,5 @@ pub mod FlowsWritten
 pub mod WaitsWritten
 pub mod LongLinesRead
 pub mod PremisesMet
+pub mod SeveralAtPorts
 pub mod PortsRead

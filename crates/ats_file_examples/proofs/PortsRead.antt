@@ -17,6 +17,7 @@ use Rattle.ats_file_examples.specs.AtPorts.{line_topology, streams}
 use Rattle.ats_file_examples.proofs.Parsing.{parsed}
 use Rattle.ats_file_examples.proofs.Steps.{document_is, flow_is, legs_is, network_is, one_leg, one_more, path_is}
 use Rattle.ats_file_examples.proofs.Steps.{stream_is}
+use Rattle.ats_file_examples.proofs.SeveralAtPorts.{several_network_is, several_tables_are}
 
 -- A stream and a flow for each port: the tables by computation, and then the senders step by step.
 
@@ -152,4 +153,6 @@ pub ports_are_read : PortsAreRead
 ports_are_read = record {
   tables = tables_are;
   network = network_is at_ports_text at_ports_document (Ok at_ports) tables_are made;
+  several_tables = several_tables_are;
+  several_network = several_network_is;
 }

@@ -25,8 +25,8 @@ pub fn fork_is_read()
     ensures { ForkIsRead }
 {}
 
-/// The text of a network file of format 3 with a stream and a flow for each of its four ports, and the network that it
-/// declares.
+/// The text of a network file of format 3 with a stream and a flow for each of its four ports, and of one with two of
+/// each for two ports beside a stream and a flow, and the networks that they declare.
 pub fn ports_are_read()
     ensures { PortsAreRead }
 {}

@@ -11,3 +11,4 @@ pub mod RequestsFirst
 pub mod CapturesFirst
 pub mod SeveralRead
 pub mod TreesFound
+pub mod PortsFirst

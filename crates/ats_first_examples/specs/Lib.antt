@@ -10,3 +10,4 @@ pub mod Asked
 pub mod Captures
 pub mod Several
 pub mod Trees
+pub mod Ports

@@ -4,6 +4,7 @@ ghost use Rattle.ats_first_examples.specs.Arrays.{ArraysAreJudged};
 ghost use Rattle.ats_first_examples.specs.Asked.{RequestsAreFirst};
 ghost use Rattle.ats_first_examples.specs.Captures.{CapturesAreFirst};
 ghost use Rattle.ats_first_examples.specs.Kinds.{KindsAreRead};
+ghost use Rattle.ats_first_examples.specs.Ports.{PortsAreFirst};
 ghost use Rattle.ats_first_examples.specs.Records.{RecordsAreFirst};
 ghost use Rattle.ats_first_examples.specs.Rules.{RulesAreFirst};
 ghost use Rattle.ats_first_examples.specs.Senders.{SendersAreFirst};
@@ -56,6 +57,12 @@ pub fn senders_are_first()
 /// path, a listener is there twice, or there is another talker.
 pub fn trees_are_found()
     ensures { TreesAreFound }
+{}
+
+/// Streams and flows for each port: the keys of their tables, the top and the arrays of a file of format 3, and its
+/// senders.
+pub fn ports_are_first()
+    ensures { PortsAreFirst }
 {}
 
 /// Records of certificates and schedules.

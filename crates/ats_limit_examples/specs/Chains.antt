@@ -1,17 +1,27 @@
-use Rattle.std.specs.Prelude.{◌≡◌, ℕ, zero, suc, ◌+◌, List, [], ◌∷◌, codes, Ok, Some}
+use Rattle.std.specs.Prelude.{◌≡◌, ℕ, zero, suc, ◌+◌, List, [], ◌∷◌, codes, replicate, Some, None, Result, Ok, Err}
 use Rattle.ats_topology.specs.Topology.{DeclaredTopology, topology_of}
 use Rattle.ats_topology.specs.declared.node.Node.{Node}
 use Rattle.ats_topology.specs.declared.link.Link.{Link}
-use Rattle.ats_network_table.specs.declared.format.Format.TheVariants.{Two}
-use Rattle.ats_network_file.specs.Senders.{legs_in, path_in}
+use Rattle.ats_streams.specs.Flow.{DeclaredFlow, declared_flow}
+use Rattle.ats_streams.specs.Stream.{DeclaredStream, declared_stream}
+use Rattle.ats_streams.specs.declared.fault.StreamFault.TheVariants.{Limit}
+use Rattle.ats_network.specs.Network.{DeclaredNetwork, declared_network, long_network}
+use Rattle.ats_network_table.specs.declared.format.Format.TheVariants.{Three, Two}
+use Rattle.ats_network_file.specs.Senders.{flow_added, legs_in, path_in, stream_added}
+use Rattle.ats_network_file.specs.declared.fault.NetFault.TheVariants as fault
 use Rattle.ats_network_file.specs.declared.senders.Place.{Place}
 use Rattle.ats_network_file.specs.declared.senders.SenderTable.TheVariants.{Flow, Stream}
+use Rattle.ats_network_toml.specs.Document as file
 use Rattle.ats_network_toml.specs.Document.{DeclaredRoute, ends, path}
-use Rattle.ats_request_file.specs.Reading.{path_between}
+use Rattle.ats_requests.specs.declared.request.Request.{Request}
+use Rattle.ats_requests.specs.declared.request.Request.TheVariants.{Admit}
+use Rattle.ats_request_file.specs.Reading.{path_between, requests_of}
+use Rattle.ats_request_file.specs.declared.fault.RequestFault.{RequestFault}
+use Rattle.ats_request_file.specs.declared.fault.RequestFault.TheVariants as request
 use Rattle.ats_route_tree.specs.Legs.{DeclaredLegs}
 use Rattle.ats_examples.specs.Networks.{bridge, link, station}
 
--- Paths of as many links as a stream may have, and of one more.
+-- Paths of as many links as a stream may have, and of one more; and a request for a stream over such links.
 
 -- bridges are named `ba`, `bb` and so on
 abbrev pub bridge_name : ℕ → List ℕ
@@ -68,3 +78,61 @@ pub record LongPathsAreFound : Type 0 where
   pub of_flow_over : path_in Two (chain 15) first_flow (by_names 15) ≡ Ok (ports_from 0 17)
   pub of_ends : legs_in Two (chain 6) first_stream (by_ends ∷ []) ≡ Ok (one_leg (ports_from 0 8))
   pub asked : path_between (chain 6) 0 1 ≡ Some (ports_from 0 8)
+
+-- what is asked with a line of a request file
+abbrev pub asked_over : DeclaredNetwork → Result (List Request) RequestFault
+asked_over network = requests_of network (codes "admit c s1 s2 5 1000000 672 64 64 10000000\n")
+
+-- the stream of that line, along so many links
+abbrev pub asked_along : ℕ → Request
+asked_along links = Admit
+    (declared_stream (codes "c") (ports_from 0 links) (replicate links 5) 1000000 672 64 64 10000000 None)
+
+-- a request is for a stream along at most 16 links in formats 1 and 2, and where routes may be long along at most 64
+pub record LongRequestsAreLimited : Type 0 where
+  pub short : asked_over (declared_network (chain 14) [] []) ≡ Ok (asked_along 16 ∷ [])
+  pub short_over : asked_over (declared_network (chain 15) [] []) ≡ Err (request.Stream 1 Limit)
+  pub over_short : asked_over (long_network (chain 15) [] []) ≡ Ok (asked_along 17 ∷ [])
+  pub long : asked_over (long_network (chain 62) [] []) ≡ Ok (asked_along 64 ∷ [])
+  pub long_over : asked_over (long_network (chain 63) [] []) ≡ Err (request.Stream 1 Limit)
+
+-- the table of a stream through all bridges of a chain, and of a flow
+abbrev pub stream_through : ℕ → file.DeclaredStream
+stream_through n = record {
+  name = codes "w";
+  routes = by_names n ∷ [];
+  classes = 1 ∷ [];
+  rate_bps = 1;
+  burst_bits = 672;
+  min_octets = 64;
+  max_octets = 64;
+  deadline_ns = 1;
+  identity = None;
+}
+
+abbrev pub flow_through : ℕ → file.DeclaredFlow
+flow_through n = record { name = codes "f"; route = by_names n; max_octets = 64 }
+
+-- what stands in the network then, along so many links
+abbrev pub stream_along : ℕ → DeclaredStream
+stream_along links = declared_stream (codes "w") (ports_from 0 links) (replicate links 1) 1 672 64 64 1 None
+
+abbrev pub flow_along : ℕ → DeclaredFlow
+flow_along links = declared_flow (codes "f") (ports_from 0 links) 64
+
+-- a stream and a flow of a file go along at most as many links as their network allows: 16, and in format 3 64
+pub record LongRoutesAreLimited : Type 0 where
+  pub short : flow_added Two (declared_network (chain 14) [] []) first_flow (flow_through 14)
+      ≡ Ok (declared_network (chain 14) [] (flow_along 16 ∷ []))
+  pub short_over : flow_added Two (declared_network (chain 15) [] []) first_flow (flow_through 15)
+      ≡ Err (fault.Sender Flow 1 Limit)
+  pub over_short : flow_added Three (long_network (chain 15) [] []) first_flow (flow_through 15)
+      ≡ Ok (long_network (chain 15) [] (flow_along 17 ∷ []))
+  pub long : flow_added Three (long_network (chain 62) [] []) first_flow (flow_through 62)
+      ≡ Ok (long_network (chain 62) [] (flow_along 64 ∷ []))
+  pub long_over : flow_added Three (long_network (chain 63) [] []) first_flow (flow_through 63)
+      ≡ Err (fault.Sender Flow 1 Limit)
+  pub long_stream : stream_added Three (long_network (chain 62) [] []) first_stream (stream_through 62)
+      ≡ Ok (long_network (chain 62) (stream_along 64 ∷ []) [])
+  pub long_stream_over : stream_added Three (long_network (chain 63) [] []) first_stream (stream_through 63)
+      ≡ Err (fault.Sender Stream 1 Limit)

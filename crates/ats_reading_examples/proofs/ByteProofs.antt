@@ -3,8 +3,8 @@ use Rattle.ats_pcap.specs.Capture.{form_of, is_whole, order_of, position_of, rec
 use Rattle.ats_pcap.specs.Capture.{header_fault as of_header, record_fault as of_record}
 use Rattle.ats_pcap.specs.Identity.{address_of, identity_of}
 use Rattle.ats_pcap.specs.Numbers.{number16, number32}
-use Rattle.ats_reading_examples.specs.Bytes.{CapturesHaveAllBits, HeadersHaveAllBits, MagicsHaveAllBits}
-use Rattle.ats_reading_examples.specs.Bytes.{RecordsHaveAllBits}
+use Rattle.ats_reading_examples.specs.Bytes.{CapturesHaveAllBits, FramesHaveLeastOctets, HeadersHaveAllBits}
+use Rattle.ats_reading_examples.specs.Bytes.{MagicsHaveAllBits, RecordsHaveAllBits}
 
 -- Captures by computation.
 
@@ -57,9 +57,21 @@ records_have_all_bits = record {
   captured_fourth_high = refl;
 }
 
+frames_have_least_octets : FramesHaveLeastOctets
+unfolding form_of of_header is_whole order_of position_of of_record record_of address_of identity_of number16 number32
+frames_have_least_octets = record {
+  of_0 = refl;
+  below = refl;
+  least = refl;
+  above = refl;
+  short = refl;
+  of_64 = refl;
+}
+
 pub captures_have_all_bits : CapturesHaveAllBits
 captures_have_all_bits = record {
   magics = magics_have_all_bits;
   headers = headers_have_all_bits;
   records = records_have_all_bits;
+  octets = frames_have_least_octets;
 }

@@ -14,7 +14,10 @@ nearly_are_unknown = record {
   stream_numbers = refl;
   stream_others = refl;
   stream_paths = refl;
+  link_local = refl;
+  link_local_flow = refl;
   top = refl;
+  top_of_three = refl;
 }
 
 others_are_unknown : OthersAreUnknown
@@ -26,7 +29,10 @@ others_are_unknown = record {
   flow = refl;
   stream = refl;
   stream_of_three = refl;
+  link_local = refl;
+  link_local_flow = refl;
   top = refl;
+  top_of_three = refl;
 }
 
 pub keys_are_exact : KeysAreExact

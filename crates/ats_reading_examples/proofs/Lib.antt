@@ -6,3 +6,5 @@ pub mod Steps
 pub mod PathProofs
 pub mod FieldProofs
 pub mod ReadProofs
+pub mod ColumnProofs
+pub mod StoredProofs

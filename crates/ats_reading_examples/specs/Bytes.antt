@@ -74,6 +74,16 @@ none = 0 ∷ 0 ∷ 0 ∷ 0 ∷ []
 abbrev pub one_record : ℕ → ℕ → List Record
 one_record nanos octets = record { nanos = nanos; octets = octets; identity = None } ∷ []
 
+-- a frame has four octets more than its original length, the check sequence, and 60 at least without it. Refuses 64 for
+-- all that are shorter than 64
+pub record FramesHaveLeastOctets : Type 0 where
+  pub of_0 : low_read none none none (0 ∷ 0 ∷ 0 ∷ 0 ∷ []) ≡ Ok (one_record 0 64)
+  pub below : low_read none none none (59 ∷ 0 ∷ 0 ∷ 0 ∷ []) ≡ Ok (one_record 0 64)
+  pub least : low_read none none none (60 ∷ 0 ∷ 0 ∷ 0 ∷ []) ≡ Ok (one_record 0 64)
+  pub above : low_read none none none (61 ∷ 0 ∷ 0 ∷ 0 ∷ []) ≡ Ok (one_record 0 65)
+  pub short : low_read none none none (63 ∷ 0 ∷ 0 ∷ 0 ∷ []) ≡ Ok (one_record 0 67)
+  pub of_64 : low_read none none none (64 ∷ 0 ∷ 0 ∷ 0 ∷ []) ≡ Ok (one_record 0 68)
+
 -- and so have the numbers of a record
 pub record RecordsHaveAllBits : Type 0 where
   pub octets_second : low_read none none none (60 ∷ 1 ∷ 0 ∷ 0 ∷ []) ≡ Ok (one_record 0 320)
@@ -96,3 +106,4 @@ pub record CapturesHaveAllBits : Type 0 where
   pub magics : MagicsHaveAllBits
   pub headers : HeadersHaveAllBits
   pub records : RecordsHaveAllBits
+  pub octets : FramesHaveLeastOctets

@@ -12,8 +12,10 @@ use Rattle.ats_network_table.specs.declared.key.Key.{Key}
 use Rattle.ats_network_table.specs.declared.key.Key.TheVariants as key
 use Rattle.ats_network_table.specs.declared.table.Table.{Table}
 use Rattle.ats_network_table.specs.declared.table.Table.TheVariants as table
-use Rattle.ats_network_toml.specs.Document.{DeclaredDocument, DeclaredFlow, DeclaredStream}
-use Rattle.ats_network_toml.specs.Entries.{bridge_in, flow_in, link_in, station_in, stream_in}
+use Rattle.ats_network_toml.specs.Document.{DeclaredDocument, DeclaredFlow, DeclaredLinkLocal, DeclaredLinkLocalFlow}
+use Rattle.ats_network_toml.specs.Document.{DeclaredStream}
+use Rattle.ats_network_toml.specs.Entries.{bridge_in, flow_in, link_in, link_local_flow_in, link_local_in, station_in}
+use Rattle.ats_network_toml.specs.Entries.{stream_in}
 use Rattle.ats_network_toml.specs.Reading.{document_in}
 use Rattle.ats_network_toml.specs.declared.entries.BridgeEntry.{BridgeEntry}
 use Rattle.ats_network_toml.specs.declared.entries.LinkEntry.{LinkEntry}
@@ -67,8 +69,19 @@ of_stream = member (codes "burst_bits") a_number (member (codes "class") a_numbe
     (member (codes "max_octets") a_number (member (codes "min_octets") a_number
     (member (codes "name") a_name (member (codes "path") two_names (member (codes "rate_bps") a_number no_members))))))
 
+abbrev pub of_link_local : Members
+of_link_local = member (codes "burst_bits") a_number (member (codes "class") a_number
+    (member (codes "max_octets") a_number (member (codes "min_octets") a_number
+    (member (codes "name") a_name (member (codes "rate_bps") a_number no_members)))))
+
+abbrev pub of_link_local_flow : Members
+of_link_local_flow = member (codes "max_octets") a_number (member (codes "name") a_name no_members)
+
 abbrev pub of_top : Members
 of_top = member (codes "format") (integer (pos 2)) no_members
+
+abbrev pub of_top_of_three : Members
+of_top_of_three = member (codes "format") (integer (pos 3)) no_members
 
 -- the third table of an array, with one key more, which has a number
 abbrev pub with_key : Format → Table → Members → List ℕ → Entry
@@ -97,12 +110,41 @@ stream_with text = stream_in (with_key Two table.Stream of_stream text)
 abbrev pub stream_of_three : List ℕ → Result DeclaredStream DocumentFault
 stream_of_three text = stream_in (with_key Three table.Stream of_stream text)
 
+-- and a stream and a flow for each port, which it alone has
+abbrev pub link_local_with : List ℕ → Result DeclaredLinkLocal DocumentFault
+link_local_with text = link_local_in (with_key Three table.LinkLocal of_link_local text)
+
+abbrev pub link_local_flow_with : List ℕ → Result DeclaredLinkLocalFlow DocumentFault
+link_local_flow_with text = link_local_flow_in (with_key Three table.LinkLocalFlow of_link_local_flow text)
+
 abbrev pub top_with : List ℕ → Result DeclaredDocument DocumentFault
 top_with text = document_in (member text a_number of_top)
+
+abbrev pub top_of_three_with : List ℕ → Result DeclaredDocument DocumentFault
+top_of_three_with text = document_in (member text a_number of_top_of_three)
 
 -- so many times an unknown key
 abbrev pub unknown : {A : Type 0} → Table → ℕ → List (Result A DocumentFault)
 unknown t count = replicate count (Err (Unknown t 3))
+
+-- keys of streams alone
+abbrev pub of_streams : List Key
+of_streams =
+    key.Class ∷ key.Classes ∷ key.RateBps ∷ key.BurstBits ∷ key.MinOctets ∷ key.DeadlineNs ∷ key.Address ∷ key.Vlan ∷ []
+
+-- and of flows too, of links, of bridges in both formats, and of the top
+abbrev pub of_senders : List Key
+of_senders = key.Path ∷ key.Paths ∷ key.From ∷ key.To ∷ key.MaxOctets ∷ of_streams
+
+abbrev pub of_links : List Key
+of_links = key.A ∷ key.B ∷ key.Mbps ∷ key.PropagationNs ∷ []
+
+abbrev pub of_bridges : List Key
+of_bridges = key.ResidenceNs ∷ key.ProcessingNs ∷ key.ProcessingMinNs ∷ key.ProcessingMaxNs ∷ []
+
+abbrev pub of_the_top : List Key
+of_the_top = key.Format ∷ key.Station ∷ key.Bridge ∷ key.Link ∷ key.Stream ∷ key.LinkLocal ∷ key.Flow
+    ∷ key.LinkLocalFlow ∷ []
 
 -- of each key of a table five that are nearly that one are unknown; of several paths four, the fifth being a path
 pub record NearlyAreUnknown : Type 0 where
@@ -125,28 +167,16 @@ pub record NearlyAreUnknown : Type 0 where
   pub stream_others : map stream_with (flat_map nearly (key.DeadlineNs ∷ key.Address ∷ key.Vlan ∷ []))
       ≡ unknown table.Stream 15
   pub stream_paths : map stream_of_three (drop 1 (nearly key.Paths)) ≡ unknown table.Stream 4
+  pub link_local : map link_local_with
+      (flat_map nearly (key.Name ∷ key.Class ∷ key.RateBps ∷ key.BurstBits ∷ key.MinOctets ∷ key.MaxOctets
+      ∷ key.DeadlineNs ∷ []))
+      ≡ unknown table.LinkLocal 35
+  pub link_local_flow : map link_local_flow_with (flat_map nearly (key.Name ∷ key.MaxOctets ∷ []))
+      ≡ unknown table.LinkLocalFlow 10
   pub top : map top_with
       (flat_map nearly (key.Format ∷ key.Station ∷ key.Bridge ∷ key.Link ∷ key.Stream ∷ key.Flow ∷ []))
       ≡ replicate 30 (Err (Unknown table.Top 0))
-
--- keys of streams alone
-abbrev pub of_streams : List Key
-of_streams =
-    key.Class ∷ key.Classes ∷ key.RateBps ∷ key.BurstBits ∷ key.MinOctets ∷ key.DeadlineNs ∷ key.Address ∷ key.Vlan ∷ []
-
--- and of flows too, of links, of bridges in both formats, and of the top
-abbrev pub of_senders : List Key
-of_senders = key.Path ∷ key.Paths ∷ key.From ∷ key.To ∷ key.MaxOctets ∷ of_streams
-
-abbrev pub of_links : List Key
-of_links = key.A ∷ key.B ∷ key.Mbps ∷ key.PropagationNs ∷ []
-
-abbrev pub of_bridges : List Key
-of_bridges = key.ResidenceNs ∷ key.ProcessingNs ∷ key.ProcessingMinNs ∷ key.ProcessingMaxNs ∷ []
-
-abbrev pub of_the_top : List Key
-of_the_top = key.Format ∷ key.Station ∷ key.Bridge ∷ key.Link ∷ key.Stream ∷ key.LinkLocal ∷ key.Flow
-    ∷ key.LinkLocalFlow ∷ []
+  pub top_of_three : map top_of_three_with (flat_map nearly of_the_top) ≡ replicate 40 (Err (Unknown table.Top 0))
 
 -- each key of the other tables is unknown to a table
 pub record OthersAreUnknown : Type 0 where
@@ -165,9 +195,18 @@ pub record OthersAreUnknown : Type 0 where
       ≡ unknown table.Stream 17
   pub stream_of_three : map (λ k. stream_of_three (key_text k)) (of_links ++ of_bridges ++ of_the_top)
       ≡ unknown table.Stream 16
+  pub link_local : map (λ k. link_local_with (key_text k))
+      (key.Path ∷ key.Paths ∷ key.From ∷ key.To ∷ key.Classes ∷ key.Address ∷ key.Vlan ∷ of_links ++ of_bridges
+      ++ of_the_top)
+      ≡ unknown table.LinkLocal 23
+  pub link_local_flow : map (λ k. link_local_flow_with (key_text k))
+      (key.Path ∷ key.Paths ∷ key.From ∷ key.To ∷ of_streams ++ of_links ++ of_bridges ++ of_the_top)
+      ≡ unknown table.LinkLocalFlow 28
   pub top : map (λ k. top_with (key_text k))
       (key.Name ∷ key.LinkLocal ∷ key.LinkLocalFlow ∷ of_senders ++ of_links ++ of_bridges)
       ≡ replicate 24 (Err (Unknown table.Top 0))
+  pub top_of_three : map (λ k. top_of_three_with (key_text k)) (key.Name ∷ of_senders ++ of_links ++ of_bridges)
+      ≡ replicate 22 (Err (Unknown table.Top 0))
 
 pub record KeysAreExact : Type 0 where
   pub nearly : NearlyAreUnknown

@@ -4,3 +4,5 @@ pub mod Lines
 pub mod Paths
 pub mod Fields
 pub mod Reads
+pub mod Columns
+pub mod Stored

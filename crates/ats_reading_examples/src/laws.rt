@@ -1,11 +1,13 @@
 //! How exactly files are read, on closed examples.
 
 ghost use Rattle.ats_reading_examples.specs.Bytes.{CapturesHaveAllBits};
+ghost use Rattle.ats_reading_examples.specs.Columns.{ColumnsAreExact};
 ghost use Rattle.ats_reading_examples.specs.Fields.{FieldsAreExact};
 ghost use Rattle.ats_reading_examples.specs.Keys.{KeysAreExact};
 ghost use Rattle.ats_reading_examples.specs.Lines.{LinesAreRead};
 ghost use Rattle.ats_reading_examples.specs.Paths.{RequestsGoLeastWays};
 ghost use Rattle.ats_reading_examples.specs.Reads.{ReadsAreListed};
+ghost use Rattle.ats_reading_examples.specs.Stored.{RecordsAreAsWritten};
 
 /// A key that is nearly one of a table of a network file is unknown there, and so is each key of the other tables.
 pub fn keys_are_exact()
@@ -39,4 +41,16 @@ pub fn fields_are_exact()
 /// A file is read from its front and with no gap, and each read is listed, one that gives nothing or fails too.
 pub fn reads_are_listed()
     ensures { ReadsAreListed }
+{}
+
+/// A header of a table of values has just the columns that are due, in their order: none behind them or before them,
+/// and none too few.
+pub fn columns_are_exact()
+    ensures { ColumnsAreExact }
+{}
+
+/// A record of a capture has the octets that it says its frame had, also where it holds more bytes, and its fraction as
+/// it stands, also from a second on.
+pub fn records_are_as_written()
+    ensures { RecordsAreAsWritten }
 {}

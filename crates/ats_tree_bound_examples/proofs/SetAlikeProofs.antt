@@ -1,6 +1,6 @@
 use Rattle.std.proofs.Common.{◌≡◌, ◌≢◌, ℕ, zero, suc, ◌<◌, ◌≤◌, List, [], ◌∷◌, length, All, refl, ap, arith, inl, inr}
 use Rattle.std.proofs.Common.{lit<, lit≤}
-use Rattle.std.specs.Prelude.{◌-◌, slice_index_or}
+use Rattle.std.specs.Prelude.{slice_index_or}
 use Rattle.std.proofs.lemmas.List.Elements.{All-cons, All-nil}
 use Rattle.ats_group.specs.Group.{Offer}
 use Rattle.ats_streams.specs.Branches.{no_branch}

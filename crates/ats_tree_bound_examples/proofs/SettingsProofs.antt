@@ -12,10 +12,10 @@ use Rattle.ats_settings_law.proofs.InOrder.{in_order, keeps-ties, permutes, sort
 use Rattle.ats_settings_law.proofs.Only.{settings_are_one}
 use Rattle.ats_settings_text.specs.Text as settings
 use Rattle.ats_settings_text.specs.Text.{settings_text}
-use Rattle.ats_tree_examples.specs.Networks.{split, split_by_class, tree, turned}
+use Rattle.ats_tree_examples.specs.Networks.{behind_bridge, from_bridge, split, split_by_class, tree, turned}
 use Rattle.ats_tree_examples.proofs.TreeProofs.{split_is}
-use Rattle.ats_tree_bound_examples.specs.Settings.{BridgesAreTold, settings_by_class, split_set, split_settings}
-use Rattle.ats_tree_bound_examples.specs.Settings.{tree_settings, turned_settings}
+use Rattle.ats_tree_bound_examples.specs.Settings.{BridgesAreTold, behind_settings, own_settings, settings_by_class}
+use Rattle.ats_tree_bound_examples.specs.Settings.{split_set, split_settings, tree_settings, turned_settings}
 
 -- Settings by computation: those of all ports, in order.
 
@@ -52,5 +52,7 @@ bridges_are_told = record {
   by_class = only split_by_class settings_by_class refl;
   over_three = only tree tree_settings refl;
   in_another_order = only turned turned_settings refl;
+  of_a_bridge = only from_bridge own_settings refl;
+  behind_a_bridge = only behind_bridge behind_settings refl;
   written = split_written;
 }

@@ -3,7 +3,7 @@ use Rattle.ats_network.specs.Network.{IsNetwork}
 use Rattle.ats_settings.specs.declared.setting.Setting.{Setting}
 use Rattle.ats_settings_law.specs.Laws.{AreOnlySettings}
 use Rattle.ats_settings_text.specs.Text.{settings_text}
-use Rattle.ats_tree_examples.specs.Networks.{split, split_by_class, tree, turned}
+use Rattle.ats_tree_examples.specs.Networks.{behind_bridge, from_bridge, split, split_by_class, tree, turned}
 
 -- What bridges are told of streams with several listeners.
 
@@ -43,6 +43,14 @@ turned_settings =
     ∷ told_of 0 100000000 1000000 7 8 12 6 ∷ told_of 0 100000000 1000000 7 8 10 6
     ∷ []
 
+-- of a stream that a bridge sends by three ports that bridge is told nothing, and the next one, to which one of these
+-- leads, how its frames go on from there
+abbrev pub own_settings : List Setting
+own_settings = told_of 0 100000000 1000000 5 3 6 6 ∷ []
+
+abbrev pub behind_settings : List Setting
+behind_settings = told_of 0 100000000 1000000 5 3 6 6 ∷ told_of 0 100000000 1000000 5 3 1 6 ∷ []
+
 abbrev pub split_set : List ℕ
 split_set =
     codes "bridge,received_from,class,stream,rate_bps,burst_bits,max_octets,residence_ns,sent_to,class_there\n"
@@ -60,4 +68,6 @@ pub record BridgesAreTold : Type 0 where
   pub by_class : AreOnlySettings split_by_class settings_by_class
   pub over_three : AreOnlySettings tree tree_settings
   pub in_another_order : AreOnlySettings turned turned_settings
+  pub of_a_bridge : AreOnlySettings from_bridge own_settings
+  pub behind_a_bridge : AreOnlySettings behind_bridge behind_settings
   pub written : settings_text split split_settings ≡ split_set

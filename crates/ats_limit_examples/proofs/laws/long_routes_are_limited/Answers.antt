@@ -1,0 +1,5 @@
+use Rattle.ats_limit_examples.proofs.ChainProofs.{long_routes_are_limited}
+use Rattle.ats_limit_examples.proofs.laws.long_routes_are_limited.Goals as goal
+
+pub returns : goal.returns
+returns c = long_routes_are_limited
