@@ -9,3 +9,4 @@ pub mod OrderProofs
 pub mod PortProofs
 pub mod RecordProofs
 pub mod WaitProofs
+pub mod IdentityProofs

@@ -8,7 +8,7 @@ ghost use Rattle.ats_exact_examples.specs.Links.{LatenciesMayDiffer};
 ghost use Rattle.ats_exact_examples.specs.Orders.{OrdersAreExact};
 ghost use Rattle.ats_exact_examples.specs.Only.{NothingElseIsRead};
 ghost use Rattle.ats_exact_examples.specs.AnyWords.{WordsAreAny};
-ghost use Rattle.ats_exact_examples.specs.Named.{NamesAreExact};
+ghost use Rattle.ats_exact_examples.specs.Named.{IdentitiesAreExact, NamesAreExact};
 
 /// A longer wait covers too, and makes larger buffers there and behind.
 pub fn waits_may_grow()
@@ -57,4 +57,10 @@ pub fn words_are_any()
 /// A stream, a port or a station that a word names is there, and is called just so.
 pub fn names_are_exact()
     ensures { NamesAreExact }
+{}
+
+/// A stream that a destination address and a VLAN identifier name is there, and declares just these; and what a sender
+/// declares is what the stream with its number does.
+pub fn identities_are_exact()
+    ensures { IdentitiesAreExact }
 {}

@@ -1,1 +1,3 @@
 pub mod LaterProofs
+pub mod HopProofs
+pub mod BurstProofs

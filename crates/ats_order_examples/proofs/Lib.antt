@@ -1,3 +1,4 @@
 pub mod FlowProofs
 pub mod OrderProofs
 pub mod FlowBreakProofs
+pub mod DiscardProofs

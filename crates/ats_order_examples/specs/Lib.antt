@@ -1,3 +1,4 @@
 pub mod Flows
 pub mod Orders
 pub mod FlowBreaks
+pub mod Discards

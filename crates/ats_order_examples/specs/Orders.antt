@@ -1,7 +1,10 @@
-use Rattle.std.specs.Prelude.{◌++◌, List, [], ◌∷◌}
+use Rattle.std.specs.Prelude.{ℕ, ◌++◌, List, [], ◌∷◌}
 use Rattle.ats_trace.specs.Journey.{Travel}
+use Rattle.ats_trace.specs.Parts.{chosen}
 use Rattle.ats_trace.specs.Run.{IsLegal, IsRunBy}
-use Rattle.ats_examples.specs.Networks.{line_of_bursts, line_of_two, over_two_ranged}
+use Rattle.ats_examples.specs.BrokenRuns.{small}
+use Rattle.ats_examples.specs.Deviations.{BreaksAlone}
+use Rattle.ats_examples.specs.Networks.{line_and_flow, line_of_bursts, line_of_classes, line_of_two, over_two_ranged}
 use Rattle.ats_examples.specs.LegalRuns.{descending_key, frame_key, least_wait}
 use Rattle.ats_examples.specs.PacedRuns.{arriving_next}
 use Rattle.ats_examples.specs.Runs.{hop, out_of_order, regulated, sunk}
@@ -39,6 +42,19 @@ pub record RunsNeedNoOrder : Type 0 where
   pub tie : IsLegal (line_of_two 1000000) later_goes_first
   pub pace : IsLegal over_two_ranged late_then_early
 
+-- two frames of the lower class of a network wait at the station, and one of the higher is released when the first of
+-- them ends; the station sends the second of them, and the other, at these times
+abbrev pub just_released : ℕ → ℕ → List Travel
+just_released second other = small 1 0 0 ∷ small 1 0 second ∷ small 0 672000 other ∷ []
+
+-- a port that is just through with a frame chooses among those that become eligible at that moment too
+pub record JustEligibleCounts : Type 0 where
+  pub behind_flow : BreaksAlone chosen line_and_flow (just_released 672000 1344000)
+  pub before_flow : IsLegal line_and_flow (just_released 1344000 672000)
+  pub behind_class : BreaksAlone chosen line_of_classes (just_released 672000 1344000)
+  pub before_class : IsLegal line_of_classes (just_released 1344000 672000)
+
 pub record OrdersAreKept : Type 0 where
   pub everywhere : OrdersAreEverywhere
   pub none_needed : RunsNeedNoOrder
+  pub just_eligible : JustEligibleCounts

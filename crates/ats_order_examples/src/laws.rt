@@ -1,10 +1,12 @@
 //! Orders of frames at each kind of port, and of flows.
 
+ghost use Rattle.ats_order_examples.specs.Discards.{DiscardedAreNotSent};
 ghost use Rattle.ats_order_examples.specs.FlowBreaks.{FlowsBreakAlone};
 ghost use Rattle.ats_order_examples.specs.Flows.{FlowsAreKept};
 ghost use Rattle.ats_order_examples.specs.Orders.{OrdersAreKept};
 
-/// A run by an order keeps it at ports that leave a station and at ports between bridges; a legal run need not.
+/// A run by an order keeps it at ports that leave a station and at ports between bridges; a legal run need not. A port
+/// that is just through with a frame chooses among those that become eligible at that moment too.
 pub fn orders_are_kept()
     ensures { OrdersAreKept }
 {}
@@ -18,4 +20,9 @@ pub fn flows_are_kept()
 /// alone that breaks it, and nothing else.
 pub fn flows_break_alone()
     ensures { FlowsBreakAlone }
+{}
+
+/// Of a frame that a bridge discards, since it is late or has no declared size, no times are told at which it is sent.
+pub fn discarded_are_not_sent()
+    ensures { DiscardedAreNotSent }
 {}

@@ -22,7 +22,8 @@ use Rattle.ats_examples.proofs.BucketTest.{conforms_by, stream_conforms, is_size
 use Rattle.ats_examples.proofs.LegalTest.{ascending_by}
 use Rattle.ats_examples.proofs.Tests.{le_of, lt_of, all_by, pairs_pass, each_below, below_by}
 use Rattle.ats_verdict_examples.specs.Conformance.{behind_the_burst, from_either, too_long, both_too_long}
-use Rattle.ats_verdict_examples.specs.Conformance.{in_turn, flow_burst, long_of_flow, from_65, too_short}
+use Rattle.ats_verdict_examples.specs.Conformance.{in_turn, flow_burst, long_of_flow, from_65, over_from_both}
+use Rattle.ats_verdict_examples.specs.Conformance.{too_short}
 use Rattle.ats_verdict_examples.specs.Conformance.{ConformanceIsMet}
 
 -- Tests of releases, which compute, and what the laws say of them.
@@ -85,6 +86,12 @@ over_first keeps =
     ((keeps 0).streams 0 (lit< tt) refl).within 0 2 (lit≤ tt) (lit< tt) in
     absurd (omega arith)
 
+over_both : ¬ AllKeepBuckets line (take 3 over_from_both)
+over_both keeps =
+    let over : 1000000000000 * 24672 ≤ 100000000 * 0 + 1000000000000 * 12336 =
+    ((keeps 0).streams 0 (lit< tt) refl).within 1 2 (lit≤ tt) (lit< tt) in
+    absurd (omega arith)
+
 not_sized : ¬ AllKeepBuckets line (take 2 too_long)
 not_sized keeps =
     let fits : false ≡ true = (keeps 0).sizes 1 no_release (lit< tt) (lit< tt) refl in
@@ -124,6 +131,21 @@ first_exceeds = record {
     greatest (suc (suc zero)) h = omega (arith, ints)
     greatest (suc (suc (suc k))) h = absurd (omega arith)
 
+most_exceeds : ExceedsFrom 100000000 12336 (frames over_from_both) 2 1
+most_exceeds = record { within = lit≤ tt; over = omega (arith, ints); greatest = greatest; earliest = earliest }
+  where
+    greatest : (k : ℕ) → k ≤ 2
+        → excess 100000000 12336 (frames over_from_both) k 2 ≤ℤ excess 100000000 12336 (frames over_from_both) 1 2
+    greatest zero h = omega (arith, ints)
+    greatest (suc zero) h = omega (arith, ints)
+    greatest (suc (suc zero)) h = omega (arith, ints)
+    greatest (suc (suc (suc k))) h = absurd (omega arith)
+
+    earliest : (k : ℕ) → k < 1
+        → excess 100000000 12336 (frames over_from_both) k 2 <ℤ excess 100000000 12336 (frames over_from_both) 1 2
+    earliest zero h = omega (arith, ints)
+    earliest (suc k) h = absurd (omega arith)
+
 -- the third frame is the first by which the stream breaks its bucket
 breaks_second : Breaks line (behind_the_burst 106719999) (Bucket 1 2)
 breaks_second = record {
@@ -145,6 +167,17 @@ breaks_first = record {
   };
   size = refl;
   bucket = record { place = 0; number = refl; exceeds = first_exceeds };
+}
+
+breaks_most : Breaks line over_from_both (Bucket 1 2)
+breaks_most = record {
+  first = record {
+    within = lit< tt;
+    before = all_keep_by line (take 2 over_from_both) refl refl;
+    broken = over_both;
+  };
+  size = refl;
+  bucket = record { place = 1; number = refl; exceeds = most_exceeds };
 }
 
 breaks_size : Breaks line too_long (Size 1)
@@ -251,6 +284,10 @@ conformance_is_met = record {
   since_first = breaks_first;
   not_since_second = λ h.
       (let e : ◌≡◌ {A = ℕ} 0 1 = ap since_of (broken-one line from_either (Bucket 0 2) (Bucket 1 2) breaks_first h) in
+      absurd (omega arith));
+  since_most = breaks_most;
+  not_since_any = λ h.
+      (let e : ◌≡◌ {A = ℕ} 1 0 = ap since_of (broken-one line over_from_both (Bucket 1 2) (Bucket 0 2) breaks_most h) in
       absurd (omega arith));
   long = breaks_size;
   long_breaks = one-breaks line too_long (Size 1) breaks_size;

@@ -21,6 +21,11 @@ behind_the_burst at = release 0 0 64 ∷ release 100000000 0 1522 ∷ release at
 abbrev pub from_either : List Release
 from_either = release 0 0 64 ∷ release 6720000 0 1522 ∷ release 13439999 0 64 ∷ []
 
+-- a small frame, and long after it two of 1522 octets at once: from either on the third is too early, and by most bits
+-- from the second on
+abbrev pub over_from_both : List Release
+over_from_both = release 0 0 64 ∷ release 100000000 0 1522 ∷ release 100000000 0 1522 ∷ []
+
 -- the second frame is an octet longer than declared
 abbrev pub too_long : List Release
 too_long = release 0 0 64 ∷ release 100000000 0 1523 ∷ []
@@ -49,9 +54,10 @@ abbrev pub too_short : List Release
 too_short = release 0 0 64 ∷ []
 
 -- each may be run. By the first every node keeps its buckets. By the next the last frame, 1 ps earlier, exceeds the
--- bucket from frame 1 on, and by those after it from frame 0; by the next ones frame 1 has no declared size. Nothing
--- else is named. Of two streams that break theirs, the one whose frame is first is named, and frames are named by their
--- numbers among all releases, not among those of their stream. A flow may send frames at once, of declared sizes
+-- bucket from frame 1 on, and by those after it from frame 0; by the next from both, and most from frame 1 on; by the
+-- next ones frame 1 has no declared size. Nothing else is named. Of two streams that break theirs, the one whose frame
+-- is first is named, and frames are named by their numbers among all releases, not among those of their stream. A flow
+-- may send frames at once, of declared sizes
 pub record ConformanceIsMet : Type 0 where
   pub kept_run : AreReleases line (behind_the_burst 106720000)
   pub kept : AllKeepBuckets line (behind_the_burst 106720000)
@@ -61,6 +67,8 @@ pub record ConformanceIsMet : Type 0 where
   pub not_since_first : ¬ Breaks line (behind_the_burst 106719999) (Bucket 0 2)
   pub since_first : Breaks line from_either (Bucket 0 2)
   pub not_since_second : ¬ Breaks line from_either (Bucket 1 2)
+  pub since_most : Breaks line over_from_both (Bucket 1 2)
+  pub not_since_any : ¬ Breaks line over_from_both (Bucket 0 2)
   pub long : Breaks line too_long (Size 1)
   pub long_breaks : ¬ AllKeepBuckets line too_long
   pub both_run : AreReleases fork both_too_long
