@@ -7,6 +7,7 @@ MAX_CAPTURE_BYTES = 268_435_456
 MAX_RECORDS = 1_000_000
 MAX_FRAMES = 200_000
 MAX_PORTS = 3_200_000
+MAX_PORTS_TOGETHER = 65_536
 MAX_REQUESTS = 10_000
 
 PIECE = 1 << 16
@@ -297,6 +298,52 @@ def hub(streams, grows=True):
         write_lines("n.toml", lines(share if grows else 1))
 
     return make
+
+
+# The most ports of a route in format 3. And what a line of bridges has but for its ends, as many as nodes may be: its
+# 2046 ports with two streams and two flows each are nearly as many of both as there may be.
+LONG_PORTS = 64
+NEIGHBOURS = 1022
+
+
+def long_route(streams, grows=True, octets=64):
+    """A maker of a line of 63 bridges with streams from end to end, each of which has 64 ports, or with a share of them
+    where that is asked for."""
+    nodes = ["t"] + [f"b{k}" for k in range(LONG_PORTS - 1)] + ["u"]
+    ends = f'from = "{nodes[0]}"\nto = "{nodes[-1]}"\n'
+
+    def lines(share):
+        yield f'format = 3\n[[station]]\nname = "{nodes[0]}"\n[[station]]\nname = "{nodes[-1]}"\n'
+        for name in nodes[1:-1]:
+            yield f'[[bridge]]\nname = "{name}"\nprocessing_min_ns = 1000\nprocessing_max_ns = 1000\n'
+            yield "residence_ns = 1000000000\n"
+        for a, b in zip(nodes, nodes[1:]):
+            yield f'[[link]]\na = "{a}"\nb = "{b}"\nmbps = 1000\npropagation_ns = 500\n'
+        for k in range(streams // share):
+            yield f'[[stream]]\nname = "stream_{k}"\n{ends}class = {1 + k % 7}\nrate_bps = 100000\n'
+            yield f"burst_bits = {8 * (octets + 20)}\nmin_octets = 64\nmax_octets = {octets}\n"
+
+    return lambda share: write_lines("n.toml", lines(share if grows else 1))
+
+
+def neighbours(streams, flows):
+    """A maker of a line of bridges alone, with so many tables for streams, and for flows, at each of its ports."""
+
+    def lines(share):
+        bridges = NEIGHBOURS // share + 2
+        yield "format = 3\n"
+        for k in range(bridges):
+            yield f'[[bridge]]\nname = "b{k}"\nprocessing_min_ns = 1000\nprocessing_max_ns = 1000\n'
+            yield "residence_ns = 1000000000\n"
+        for k in range(bridges - 1):
+            yield f'[[link]]\na = "b{k}"\nb = "b{k + 1}"\nmbps = 1000\npropagation_ns = 500\n'
+        for k in range(streams):
+            yield f'[[link_local]]\nname = "own_{k}"\nclass = {7 - k % 7}\nrate_bps = 100000\nburst_bits = 672\n'
+            yield "min_octets = 64\nmax_octets = 64\n"
+        for k in range(flows):
+            yield f'[[link_local_flow]]\nname = "other_{k}"\nmax_octets = 64\n'
+
+    return lambda share: write_lines("n.toml", lines(share))
 
 
 def late_requests(count):
