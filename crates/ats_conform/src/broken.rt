@@ -13,7 +13,7 @@ pub enum Broken {
     /// Its octets are a declared size, but its stream's bucket does not hold its bits.
     Bucket {
         /// The number of the frame of its stream from which on it exceeds the bucket by most bits, the earliest of
-        /// these. It may be the frame itself.
+        /// these. It is one before this frame, which the burst covers alone.
         since: u32,
         /// Its number.
         frame: u32,
