@@ -2,8 +2,10 @@ use Rattle.std.proofs.Common.{◌≡◌, ℕ, zero, suc, ◌+◌, ◌<◌, List,
 use Rattle.std.proofs.Common.{refl, ap, sym, ◌∙◌, add-one, length-set, arith}
 use Rattle.std.proofs.lemmas.List.{get_or_default}
 use Rattle.ats_streams.specs.Stream.{DeclaredStream, with_burst}
-use Rattle.ats_network.specs.Network.{DeclaredNetwork}
+use Rattle.ats_network.specs.Network.{DeclaredNetwork, IsNetwork}
 use Rattle.ats_network.specs.Edits.{no_stream, with_burst_at}
+use Rattle.ats_network.specs.Rates.{HasRates}
+use Rattle.ats_network.proofs.Rated.{narrowed_rates}
 use Rattle.ats_num.specs.Wire.{bits_of}
 use Rattle.ats_lrq.specs.Narrow.{narrowed_stream}
 
@@ -49,3 +51,13 @@ count-step network now later n bits count set =
     ap (λ (x : DeclaredNetwork). length x.streams) set
     ∙ length-set now.streams n (with_burst (get_or now.streams n no_stream) bits)
     ∙ count
+
+-- a stream with a narrowed burst is still within the limits of a scheduler at each of its ports
+pub narrowed-rates : (network : DeclaredNetwork) (n burst_bits : ℕ) → IsNetwork network → n < length network.streams
+    → burst_bits ≡ bits_of (get_or network.streams n no_stream).max_octets
+    → HasRates network.topology (with_burst (get_or network.streams n no_stream) burst_bits)
+narrowed-rates network n burst_bits is within same =
+    let rules = (is.streams n no_stream within).rules in
+    let covers = rules.covers in
+    narrowed_rates network.topology (get_or network.streams n no_stream) burst_bits is.topology
+    rules.rate.positive (omega (arith, same, covers)) (is.rates n no_stream within)

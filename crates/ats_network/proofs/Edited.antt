@@ -20,9 +20,11 @@ use Rattle.ats_streams.specs.Stream.{DeclaredStream, IsClass, IsStream, with_bur
 use Rattle.ats_network.specs.Edits.{less_at, no_stream, with_burst_at, with_class_at, without_named}
 use Rattle.ats_network.specs.Network.{AreIdentified, DeclaredNetwork, HasShortRoutes, IsNetwork, Share}
 use Rattle.ats_network.specs.Path.{IsTree}
+use Rattle.ats_network.specs.Rates.{HasRates}
 use Rattle.ats_network.specs.Sender.{Sender, stream_sender, flow_sender}
 use Rattle.ats_network.specs.Tables.{flow_names, stream_identities, stream_names}
 use Rattle.ats_network.proofs.NameLemmas.{apart_from_pairs, names_of-senders, pairs_from_apart}
+use Rattle.ats_network.proofs.Rated.{burst_of_rates, classed_rates}
 use Rattle.ats_network.proofs.TableLemmas.{map-remove}
 
 abbrev name : DeclaredStream → List ℕ
@@ -79,17 +81,18 @@ is_burst_changed s burst_bits is covers most = record {
   identity = is.identity;
 }
 
--- a network in which another stream with the same name, ports, branches and identity stands in the place of one keeps
--- what a network keeps
+-- a network in which another stream with the same name, ports, branches and identity, and with its rates, stands in the
+-- place of one keeps what a network keeps
 replaced_network : (network : DeclaredNetwork) (n : ℕ) (it : DeclaredStream) → IsNetwork network
     → n < length network.streams → IsStream it → it.name ≡ (get_or network.streams n no_stream).name
     → it.ports ≡ (get_or network.streams n no_stream).ports
     → it.branches ≡ (get_or network.streams n no_stream).branches
-    → it.identity ≡ (get_or network.streams n no_stream).identity → IsNetwork (record network {
+    → it.identity ≡ (get_or network.streams n no_stream).identity → HasRates network.topology it
+    → IsNetwork (record network {
       streams = set
           network.streams n it;
     })
-replaced_network network n it is within keeps same_name same_ports same_branches same_identity = record {
+replaced_network network n it is within keeps same_name same_ports same_branches same_identity rated = record {
   topology = is.topology;
   streams = All-set IsStream network.streams n it keeps is.streams;
   flows = is.flows;
@@ -110,6 +113,7 @@ replaced_network network n it is within keeps same_name same_ports same_branches
   short_streams =
       All-set (HasShortRoutes network.most_ports) network.streams n it short is.short_streams;
   short_flows = is.short_flows;
+  rates = All-set (HasRates network.topology) network.streams n it rated is.rates;
 }
   where
     streams : List Sender
@@ -144,15 +148,20 @@ classed_network network n class is within valid =
     let before : DeclaredStream = get_or network.streams n no_stream in
     replaced_network network n (with_class before class) is within
     (is_classed before class (is.streams n no_stream within) valid) refl refl refl refl
+    (classed_rates network.topology before class (is.rates n no_stream within))
 
--- a network in which a stream has another burst, which covers its longest frame, keeps what a network keeps
+-- a network in which a stream has another burst, which covers its longest frame and leaves it its rates, keeps what a
+-- network keeps
 pub burst_changed_network : (network : DeclaredNetwork) (n burst_bits : ℕ) → IsNetwork network
     → n < length network.streams → CoversLongest burst_bits (get_or network.streams n no_stream).max_octets
-    → IsBurst burst_bits → IsNetwork (with_burst_at network n burst_bits)
-burst_changed_network network n burst_bits is within covers most =
+    → HasRates network.topology (with_burst (get_or network.streams n no_stream) burst_bits)
+    → IsNetwork (with_burst_at network n burst_bits)
+burst_changed_network network n burst_bits is within covers rates =
     let before : DeclaredStream = get_or network.streams n no_stream in
+    let keeps : IsStream before = is.streams n no_stream within in
     replaced_network network n (with_burst before burst_bits) is within
-    (is_burst_changed before burst_bits (is.streams n no_stream within) covers most) refl refl refl refl
+    (is_burst_changed before burst_bits keeps covers
+    (burst_of_rates network.topology before burst_bits is.topology keeps rates)) refl refl refl refl rates
 
 -- what holds of each element holds of each of the others without one
 all_remove : {X : Type 0} (P : X → Type 0) (xs : List X) (n : ℕ) → n < length xs → All P xs → All P (remove xs n)
@@ -213,6 +222,7 @@ less_network network n is within = record {
   most_ports = is.most_ports;
   short_streams = all_remove (HasShortRoutes network.most_ports) network.streams n within is.short_streams;
   short_flows = is.short_flows;
+  rates = all_remove (HasRates network.topology) network.streams n within is.rates;
 }
   where
     streams : List Sender

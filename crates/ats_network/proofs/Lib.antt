@@ -22,3 +22,6 @@ pub mod FirstLemmas
 pub mod SimpleWalks
 pub mod RouteLemmas
 pub mod ClassLemmas
+pub mod FrontLemmas
+pub mod RateLemmas
+pub mod Rated

@@ -15,11 +15,13 @@ use Rattle.ats_network.specs.Sender.{Sender, stream_sender, flow_sender}
 use Rattle.ats_network.specs.Path.{IsTree, IsValidPath}
 use Rattle.ats_network.specs.Network.{DeclaredNetwork, HasShortPath, HasShortRoutes, IsNetwork, senders_of, names_of}
 use Rattle.ats_network.specs.Network.{ports_together}
-use Rattle.ats_network.specs.Pushes.{with_stream, with_flow, is_full, is_identity_taken}
+use Rattle.ats_network.specs.Pushes.{with_stream, with_flow, is_beyond, is_full, is_identity_taken}
+use Rattle.ats_network.specs.Rates.{HasRates, is_overrated}
 use Rattle.ats_network.specs.Tables.{stream_names, flow_names}
 use Rattle.ats_network.specs.declared.network.TheConstants.{MAX_STREAMS, MAX_FLOWS, MAX_PORTS_TOGETHER}
 use Rattle.ats_network.proofs.NameLemmas.{names_of-senders, apart_insert}
 use Rattle.ats_network.proofs.IdentityLemmas.{share_push}
+use Rattle.ats_network.proofs.Rated.{has_rates}
 use Rattle.ats_network.proofs.TreeLemmas.{tree_of_path}
 
 -- there is room for one more stream with these ports
@@ -37,6 +39,12 @@ not_full streams ports room =
       few_ports = ltb-false MAX_PORTS_TOGETHER together parts.1;
     }
 
+pub fits_beside : (network : DeclaredNetwork) (stream : DeclaredStream) → is_beyond network stream ≡ false
+    → Fits network.streams stream.ports
+fits_beside network stream room =
+    not_full network.streams stream.ports
+    (or_parts (is_full network.streams stream.ports) (is_overrated network.topology (stream_sender stream)) room).0
+
 stream_names-push : (streams : List DeclaredStream) (stream : DeclaredStream)
     → stream_names (streams ++ stream ∷ []) ≡ stream_names streams ++ stream.name ∷ []
 stream_names-push streams stream = map-append (λ (s : DeclaredStream). s.name) streams (stream ∷ [])
@@ -49,7 +57,7 @@ flow_names-push flows flow = map-append (λ (f : DeclaredFlow). f.name) flows (f
 pub pushed_stream : (network : DeclaredNetwork) (stream : DeclaredStream) → IsNetwork network → IsStream stream
     → IsTree network.topology stream.ports stream.branches → HasShortRoutes network.most_ports stream
     → place_of stream.name (names_of (senders_of network)) ≡ None → is_identity_taken network.streams stream.identity
-    ≡ false → is_full network.streams stream.ports ≡ false → IsNetwork (with_stream network stream)
+    ≡ false → is_beyond network stream ≡ false → IsNetwork (with_stream network stream)
 pushed_stream network stream is keeps tree short absent free room = record {
   topology = is.topology;
   streams = All-push IsStream network.streams stream is.streams keeps;
@@ -75,8 +83,14 @@ pushed_stream network stream is keeps tree short absent free room = record {
   short_streams =
       All-push (HasShortRoutes network.most_ports) network.streams stream is.short_streams short;
   short_flows = is.short_flows;
+  rates = All-push (HasRates network.topology) network.streams stream is.rates
+      (has_rates network.topology stream is.topology keeps.rules.rate.positive small);
 }
   where
+    small : is_overrated network.topology (stream_sender stream) ≡ false
+    small =
+        (or_parts (is_full network.streams stream.ports) (is_overrated network.topology (stream_sender stream)) room).1
+
     streams : List Sender
     streams = map stream_sender network.streams
 
@@ -87,7 +101,7 @@ pushed_stream network stream is keeps tree short absent free room = record {
     Goes s = IsTree network.topology s.ports s.branches
 
     fits : Fits network.streams stream.ports
-    fits = not_full network.streams stream.ports room
+    fits = fits_beside network stream room
 
 -- a network with one flow more keeps what a network keeps
 pub pushed_flow : (network : DeclaredNetwork) (flow : DeclaredFlow) → IsNetwork network → IsFlow flow
@@ -111,6 +125,7 @@ pushed_flow network flow is keeps valid short absent room = record {
   most_ports = is.most_ports;
   short_streams = is.short_streams;
   short_flows = All-push (HasShortPath network.most_ports) network.flows flow is.short_flows short;
+  rates = is.rates;
 }
   where
     streams : List Sender

@@ -18,12 +18,14 @@ use Rattle.ats_topology.specs.Topology.{DeclaredTopology, IsTopology}
 use Rattle.ats_network.specs.Sender.{Sender, stream_sender, flow_sender}
 use Rattle.ats_network.specs.Class.{class_at}
 use Rattle.ats_network.specs.Path.{IsTree, IsValidPath, nodes_along}
+use Rattle.ats_network.specs.Rates.{HasRates, IsRated}
 use Rattle.ats_network.specs.Network.{DeclaredNetwork, IsNetwork, HasOneListener, HasShortPath, senders_of}
 use Rattle.ats_network.specs.Bridges.{MeetAtBridge}
 use Rattle.ats_network.specs.Senders.{AllNeighbours, IsSender, HasPath, sender_at, no_sender}
 use Rattle.ats_network.specs.Laws.{EachIsSender, EachRouteIsShort, EachSenderHasPath}
 use Rattle.ats_network.proofs.ClassLemmas.{class_at-flow}
 use Rattle.ats_network.proofs.PathLemmas.{nodes_to}
+use Rattle.ats_network.proofs.Rated.{stream_rated}
 use Rattle.ats_network.proofs.BridgeLemmas.{meet_at_bridges}
 use Rattle.ats_network.proofs.TreeLemmas.{path_of_tree, tree_ports}
 use Rattle.ats_network.proofs.ValidRoutes.{each_route_is_a_path}
@@ -54,8 +56,8 @@ is_sender : (topology : DeclaredTopology) (s : Sender) → IsTopology topology
     → IsTree topology s.ports s.branches → length s.classes ≡ length s.ports
     → All (λ class. class ≤ MAX_CLASS) s.classes → AreSizes s.min_octets s.max_octets
     → ((port : ℕ) → 1 ≤ class_at s port → KeepsRules s.rate s.burst_bits s.min_octets s.max_octets)
-    → IsSender topology s
-is_sender topology s is branches routes tree each_port classes sizes shaped = record {
+    → ((port : ℕ) → 1 ≤ class_at s port → IsRated topology s port) → IsSender topology s
+is_sender topology s is branches routes tree each_port classes sizes shaped rated = record {
   branches = branches;
   routes = routes;
   tree = tree;
@@ -67,6 +69,7 @@ is_sender topology s is branches routes tree each_port classes sizes shaped = re
   classes = classes;
   sizes = sizes;
   shaped = shaped;
+  rated = rated;
 }
   where
     valid : All (IsValidPath topology) (routes_of s.ports s.branches)
@@ -74,18 +77,20 @@ is_sender topology s is branches routes tree each_port classes sizes shaped = re
 
 streams_are : (topology : DeclaredTopology) (streams : List DeclaredStream) → IsTopology topology
     → All IsStream streams → All (λ (s : Sender). IsTree topology s.ports s.branches) (map stream_sender streams)
-    → All (IsSender topology) (map stream_sender streams)
-streams_are topology [] is keep trees = All-nil (IsSender topology)
-streams_are topology (s ∷ streams) is keep trees =
+    → All (HasRates topology) streams → All (IsSender topology) (map stream_sender streams)
+streams_are topology [] is keep trees rates = All-nil (IsSender topology)
+streams_are topology (s ∷ streams) is keep trees rates =
     let rules : IsStream s = All-head IsStream s streams keep in
     All-cons (IsSender topology) (stream_sender s) (map stream_sender streams)
     (is_sender topology (stream_sender s) is rules.branches rules.routes
     (All-head (λ (s : Sender). IsTree topology s.ports s.branches) (stream_sender s) (map stream_sender streams) trees)
     rules.each_port
     (All-weaker IsClass (λ class. class ≤ MAX_CLASS) (λ class h. h.most) s.classes rules.classes)
-    rules.rules.sizes (λ port _. rules.rules))
+    rules.rules.sizes (λ port _. rules.rules)
+    (stream_rated topology s (All-head (HasRates topology) s streams rates)))
     (streams_are topology streams is (All-tail IsStream s streams keep)
-    (All-tail (λ (s : Sender). IsTree topology s.ports s.branches) (stream_sender s) (map stream_sender streams) trees))
+    (All-tail (λ (s : Sender). IsTree topology s.ports s.branches) (stream_sender s) (map stream_sender streams) trees)
+    (All-tail (HasRates topology) s streams rates))
 
 no_classes : (path : List ℕ) → All (λ class. class ≤ MAX_CLASS) (map (λ port. 0) path)
 no_classes [] = All-nil (λ class. class ≤ MAX_CLASS)
@@ -107,7 +112,7 @@ flows_are topology (f ∷ flows) is keep trees =
     (All-head (λ (s : Sender). IsTree topology s.ports s.branches) (flow_sender f) (map flow_sender flows) trees)
     (length-map f.path (λ port. 0)) (no_classes f.path)
     (record { least = omega arith; ordered = rules.size.least; most = rules.size.most })
-    (λ port positive. absurd (no_class f port positive)))
+    (λ port positive. absurd (no_class f port positive)) (λ port positive. absurd (no_class f port positive)))
     (flows_are topology flows is (All-tail IsFlow f flows keep)
     (All-tail (λ (s : Sender). IsTree topology s.ports s.branches) (flow_sender f) (map flow_sender flows) trees))
 
@@ -118,7 +123,7 @@ each_is_sender network is =
     let flows : List Sender = map flow_sender network.flows in
     All-append (IsSender network.topology) streams flows
     (streams_are network.topology network.streams is.topology is.streams
-    (all_left Goes streams flows is.trees))
+    (all_left Goes streams flows is.trees) is.rates)
     (flows_are network.topology network.flows is.topology is.flows (all_right Goes streams flows is.trees))
 
 -- a sender with one listener goes along a path

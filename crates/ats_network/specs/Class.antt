@@ -1,7 +1,9 @@
 use Rattle.std.specs.Prelude.{ℕ, ◌==◌, if◌then◌else◌, List, [], ◌∷◌, Option, Some, None}
 use Rattle.std.specs.Option.{option_or}
 use Rattle.ats_streams.specs.Branches.{routes_of}
+use Rattle.ats_topology.specs.Topology.{DeclaredTopology}
 use Rattle.ats_network.specs.Sender.{Sender}
+use Rattle.ats_network.specs.Rates.{committed_at}
 
 -- of classes that belong to the ports of a path, one by one, that of this port; 0 where the path does not have it
 abbrev pub class_along : ℕ → List ℕ → List ℕ → ℕ
@@ -27,8 +29,8 @@ before_on port (route ∷ routes) = option_or (before_along port route) (before_
 abbrev pub port_before : Sender → ℕ → Option ℕ
 port_before sender port = before_on port (routes_of sender.ports sender.branches)
 
--- what a port sees of a sender: its class there, its committed rate in bits per second, its committed burst in bits,
--- and its least and greatest octets
+-- what a port sees of a sender: its class there, the rate in bits per second and the burst in bits to which its frames
+-- conform there in true time, and its least and greatest octets
 pub record PortSender : Type 0 where
   pub class : ℕ
   pub rate : ℕ
@@ -37,11 +39,11 @@ pub record PortSender : Type 0 where
   pub max_octets : ℕ
 
 -- a sender as a port sees it
-abbrev pub seen_at : ℕ → Sender → PortSender
-seen_at port s = record {
+abbrev pub seen_at : DeclaredTopology → ℕ → Sender → PortSender
+seen_at topology port s = record {
   class = class_at s port;
-  rate = s.rate;
-  burst_bits = s.burst_bits;
+  rate = (committed_at topology port s).rate;
+  burst_bits = (committed_at topology port s).burst_bits;
   min_octets = s.min_octets;
   max_octets = s.max_octets;
 }

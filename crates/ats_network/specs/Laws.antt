@@ -1,15 +1,19 @@
 use Rattle.std.specs.Prelude.{◌≡◌, ◌≢◌, ◌↔◌, ℕ, ◌<◌, ◌≤◌, List, [], ◌∷◌, length, slice_index_or, Some, None, All}
 use Rattle.std.specs.Prelude.{AllPairs}
-use Rattle.ats_topology.specs.Topology.{DeclaredTopology, IsStationAt, IsTopology}
+use Rattle.ats_clock.specs.Laws.{IsNoGreater}
+use Rattle.ats_clock.specs.Rates.{committed}
+use Rattle.ats_topology.specs.Topology.{DeclaredTopology, HasIdealClocks, IsStationAt, IsTopology}
 use Rattle.ats_topology.specs.Walks.{IsLeastWalk, NoWalk}
 use Rattle.ats_streams.specs.Branches.{AreBranches, AreShort, routes_of}
+use Rattle.ats_streams.specs.Flow.{DeclaredFlow}
 use Rattle.ats_streams.specs.declared.branch.Branch.{Branch}
 use Rattle.ats_network.specs.Path.{IsTree, IsValidPath, nodes_along}
 use Rattle.ats_network.specs.Ends.{beginning_of}
 use Rattle.ats_network.specs.Listeners.{end_of}
 use Rattle.ats_network.specs.Bridges.{MeetAtBridge}
-use Rattle.ats_network.specs.Sender.{Sender}
+use Rattle.ats_network.specs.Sender.{Sender, flow_sender}
 use Rattle.ats_network.specs.Class.{class_at}
+use Rattle.ats_network.specs.Rates.{committed_at, scheduled_at}
 use Rattle.ats_network.specs.Network.{DeclaredNetwork, IsNetwork, HasOneListener, senders_of}
 use Rattle.ats_network.specs.Senders.{AllNeighbours, IsSender, HasPath}
 use Rattle.ats_network.specs.Shortest.{shortest_of}
@@ -94,3 +98,28 @@ StationsEndApart = (topology : DeclaredTopology) (talker : ℕ) (paths : List (L
 abbrev pub ShortestIsLeast : Type 0
 ShortestIsLeast = (topology : DeclaredTopology) (a b : ℕ) → IsTopology topology → a < length topology.nodes
     → b < length topology.nodes → IsShortest topology a b
+
+-- at a port, the rate and burst to which a sender's frames conform are no less than declared, and those that its
+-- scheduler is to have behind the port are no less than these
+pub record AreNoLess (topology : DeclaredTopology) (s : Sender) (port : ℕ) : Type 0 where
+  pub seen : IsNoGreater (committed s.rate s.burst_bits) (committed_at topology port s)
+  pub scheduled : IsNoGreater (committed_at topology port s) (scheduled_at topology port s)
+
+abbrev pub RatesAreNoLess : Type 0
+RatesAreNoLess = (topology : DeclaredTopology) (s : Sender) (port : ℕ) → IsTopology topology
+    → AreNoLess topology s port
+
+-- at a port, a sender's frames conform to the declared rate and burst, and its scheduler is to have these
+pub record AreDeclared (topology : DeclaredTopology) (s : Sender) (port : ℕ) : Type 0 where
+  pub seen : committed_at topology port s ≡ committed s.rate s.burst_bits
+  pub scheduled : scheduled_at topology port s ≡ committed s.rate s.burst_bits
+
+-- where all clocks are ideal, rates and bursts are the declared ones at each port
+abbrev pub IdealClocksKeepRates : Type 0
+IdealClocksKeepRates = (topology : DeclaredTopology) (s : Sender) (port : ℕ) → HasIdealClocks topology
+    → AreDeclared topology s port
+
+-- a flow, which has neither rate nor burst, has none at any port, whatever the clocks
+abbrev pub FlowsHaveNoRate : Type 0
+FlowsHaveNoRate = (topology : DeclaredTopology) (f : DeclaredFlow) (port : ℕ) → IsTopology topology
+    → AreDeclared topology (flow_sender f) port

@@ -1,5 +1,6 @@
 pub mod Sender
 pub mod Class
+pub mod Rates
 pub mod Path
 pub mod Network
 pub mod FaultText

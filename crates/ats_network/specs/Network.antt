@@ -7,6 +7,7 @@ use Rattle.ats_streams.specs.Flow.{DeclaredFlow, IsFlow}
 use Rattle.ats_streams.specs.declared.path.TheConstants.{MAX_PORTS, MAX_SHORT_PORTS}
 use Rattle.ats_network.specs.Sender.{Sender, stream_sender, flow_sender}
 use Rattle.ats_network.specs.Path.{IsTree}
+use Rattle.ats_network.specs.Rates.{HasRates}
 use Rattle.ats_network.specs.declared.network.TheConstants.{MAX_STREAMS, MAX_FLOWS, MAX_PORTS_TOGETHER}
 
 -- a network: nodes, links and ports, the greatest number of ports of a route, and the streams and flows that are
@@ -77,6 +78,7 @@ pub record IsNetwork (network : DeclaredNetwork) : Type 0 where
   pub most_ports : IsMostPorts network.most_ports
   pub short_streams : All (HasShortRoutes network.most_ports) network.streams
   pub short_flows : All (HasShortPath network.most_ports) network.flows
+  pub rates : All (HasRates network.topology) network.streams
 
 -- each stream has one listener: no stream has a branch
 abbrev pub HasOneListener : DeclaredNetwork → Type 0

@@ -6,6 +6,8 @@ use Rattle.ats_num.specs.Places.{place_of}
 use Rattle.ats_streams.specs.Stream.{DeclaredStream}
 use Rattle.ats_streams.specs.Flow.{DeclaredFlow}
 use Rattle.ats_network.specs.Network.{DeclaredNetwork, network_within, senders_of, names_of, ports_together}
+use Rattle.ats_network.specs.Rates.{is_overrated}
+use Rattle.ats_network.specs.Sender.{stream_sender}
 use Rattle.ats_network.specs.declared.network.TheConstants.{MAX_STREAMS, MAX_FLOWS, MAX_PORTS_TOGETHER}
 use Rattle.ats_network.specs.declared.fault.PushFault.{PushFault}
 use Rattle.ats_network.specs.declared.fault.PushFault.TheVariants.{NameTaken, IdentityTaken, Limit}
@@ -48,12 +50,18 @@ abbrev pub is_full : List DeclaredStream → List ℕ → Bool
 is_full streams ports =
     nat_le MAX_STREAMS (length streams) || nat_lt MAX_PORTS_TOGETHER (ports_together streams + length ports)
 
--- why a stream can't be added, if it can't: its name is taken, then its identity, then there is no room for it
+-- a stream is over a limit: there is no room for it, or a rate or a burst of it at one of its ports is over the limits
+-- of a scheduler
+abbrev pub is_beyond : DeclaredNetwork → DeclaredStream → Bool
+is_beyond network stream =
+    is_full network.streams stream.ports || is_overrated network.topology (stream_sender stream)
+
+-- why a stream can't be added, if it can't: its name is taken, then its identity, then it is over a limit
 abbrev pub stream_push_fault : DeclaredNetwork → DeclaredStream → Option PushFault
 stream_push_fault network stream =
     if is_name_taken network stream.name then Some NameTaken
     else if is_identity_taken network.streams stream.identity then Some IdentityTaken
-    else if is_full network.streams stream.ports then Some Limit
+    else if is_beyond network stream then Some Limit
     else None
 
 -- why a flow can't be added, if it can't: its name is taken, then as many flows as may be are there

@@ -8,7 +8,7 @@ use Rattle.ats_topology.specs.declared.node.Kind.TheVariants.{Station, Bridge}
 -- the maximum residence time of a bridge in nanoseconds; a station has none
 abbrev pub residence_at : Kind → Option ℕ
 residence_at Station = None
-residence_at (Bridge processing_min_ns processing_max_ns residence_ns) = Some residence_ns
+residence_at (Bridge processing_min_ns processing_max_ns residence_ns clock_ppm clock_step_ps) = Some residence_ns
 
 -- the maximum residence time, in nanoseconds, of the bridge that a port leads to
 abbrev pub residence_after : DeclaredTopology → ℕ → Option ℕ

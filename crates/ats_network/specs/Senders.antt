@@ -8,6 +8,7 @@ use Rattle.ats_topology.specs.Topology.{DeclaredTopology}
 use Rattle.ats_topology.specs.Walks.{ArePorts}
 use Rattle.ats_network.specs.Sender.{Sender}
 use Rattle.ats_network.specs.Class.{class_at}
+use Rattle.ats_network.specs.Rates.{IsRated}
 use Rattle.ats_network.specs.Path.{IsTree, IsValidPath}
 use Rattle.ats_network.specs.Bridges.{MeetAtBridge}
 use Rattle.ats_network.specs.Network.{DeclaredNetwork, senders_of}
@@ -37,7 +38,8 @@ AllNeighbours R (p ∷ q ∷ path) = R p q × AllNeighbours R (q ∷ path)
 
 -- what each sender of a network keeps: legs that make a tree of different ports of the topology; routes of 1 to 64
 -- ports, each of them a valid path whose ports meet at bridges; a class of at most 7 for each port, and sizes of
--- frames; and, where its class at a port is not 0, a rate and a burst as a declared stream has them
+-- frames; and, where its class at a port is not 0, a rate and a burst as a declared stream has them, and there what
+-- comes of it and what its scheduler has behind the port are within the limits of a scheduler
 pub record IsSender (topology : DeclaredTopology) (sender : Sender) : Type 0 where
   pub branches : AreBranches sender.ports sender.branches
   pub routes : All IsPath (routes_of sender.ports sender.branches)
@@ -51,6 +53,7 @@ pub record IsSender (topology : DeclaredTopology) (sender : Sender) : Type 0 whe
   pub sizes : AreSizes sender.min_octets sender.max_octets
   pub shaped : (port : ℕ) → 1 ≤ class_at sender port
       → KeepsRules sender.rate sender.burst_bits sender.min_octets sender.max_octets
+  pub rated : (port : ℕ) → 1 ≤ class_at sender port → IsRated topology sender port
 
 -- what a sender with one listener keeps besides: its ports are a valid path of 1 to 64, and they meet at bridges
 pub record HasPath (topology : DeclaredTopology) (sender : Sender) : Type 0 where

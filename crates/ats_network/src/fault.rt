@@ -11,7 +11,8 @@ pub enum PushFault {
     NameTaken,
     /// A stream of the network has the destination address and VLAN identifier. No flow is refused so.
     IdentityTaken,
-    /// As many streams, or flows, are there as a network may have, or the streams would have more ports together.
+    /// As many streams, or flows, are there as a network may have, or the streams would have more ports together; or,
+    /// by the clocks on a stream's way, a rate or a burst of it is over the limits of a scheduler.
     Limit,
 }
 

@@ -3,6 +3,7 @@
 ghost use Rattle.ats_network.specs.Laws.{ClassIsByHop, EachIsSender, EachRouteIsAPath, EachRouteIsShort};
 ghost use Rattle.ats_network.specs.Laws.{EachSenderHasPath};
 ghost use Rattle.ats_network.specs.Laws.{OneListenerIsAPath};
+ghost use Rattle.ats_network.specs.Laws.{FlowsHaveNoRate, IdealClocksKeepRates, RatesAreNoLess};
 ghost use Rattle.ats_network.specs.Laws.{LeastWalksMakeATree, PathsMeetAtBridges, ShortestIsLeast, StationsEndApart};
 
 /// A law: each sender of a network keeps a sender's rules.
@@ -56,4 +57,20 @@ pub fn least_walks_make_a_tree()
 /// A law: no station is on the way to another one, of valid paths from one node to different stations.
 pub fn stations_end_apart()
     ensures { StationsEndApart }
+{}
+
+/// A law: at each port, the rate and burst to which a sender's frames conform in true time are no less than declared,
+/// and what its scheduler is to have behind the port is no less than these.
+pub fn rates_are_no_less()
+    ensures { RatesAreNoLess }
+{}
+
+/// A law: where the clocks of all nodes are ideal, rates and bursts are the declared ones at each port.
+pub fn ideal_clocks_keep_rates()
+    ensures { IdealClocksKeepRates }
+{}
+
+/// A law: a flow, which has neither rate nor burst, has none at any port.
+pub fn flows_have_no_rate()
+    ensures { FlowsHaveNoRate }
 {}

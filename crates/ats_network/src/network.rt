@@ -6,8 +6,8 @@ ghost use Rattle.ats_num.specs.Failure.{IsDue};
 ghost use Rattle.ats_num.specs.Places.{place_of};
 ghost use Rattle.ats_streams.specs.Branches.{leg_at, legs_of, routes_of};
 ghost use Rattle.ats_streams.specs.Path.{IsPath};
-ghost use Rattle.ats_streams.specs.Rules.{CoversLongest, IsBurst};
-ghost use Rattle.ats_streams.specs.Stream.{DeclaredStream, IsClass};
+ghost use Rattle.ats_streams.specs.Rules.{CoversLongest};
+ghost use Rattle.ats_streams.specs.Stream.{DeclaredStream, IsClass, with_burst};
 ghost use Rattle.ats_streams.specs.declared.path.TheConstants.{MAX_PORTS};
 ghost use Rattle.ats_network.specs.Listeners.{station_of};
 ghost use Rattle.ats_network.specs.Network.{HasOneListener, HasShortPath, HasShortRoutes, IsMostPorts, IsNetwork};
@@ -18,12 +18,14 @@ ghost use Rattle.ats_network.specs.Senders.{IsSender, sender_at};
 ghost use Rattle.ats_network.specs.SenderView.{sender_of, is_stream};
 ghost use Rattle.ats_network.specs.Residence.{residence_after, leads_to_station};
 ghost use Rattle.ats_network.specs.Pushes.{with_stream, with_flow, place_identified, is_identity_taken};
-ghost use Rattle.ats_network.specs.Pushes.{is_full, stream_push_fault, flow_push_fault};
+ghost use Rattle.ats_network.specs.Pushes.{is_beyond, is_full, stream_push_fault, flow_push_fault};
+ghost use Rattle.ats_network.specs.Rates.{HasRates};
 ghost use Rattle.ats_network.specs.Edits.{IsLess, no_stream, with_burst_at, with_class_at, stream_named, without_named};
 
 use crate::fault::PushFault;
 use crate::flow_table::FlowTable;
 use crate::paths::{is_valid_path, station_of};
+use crate::rates::is_overrated;
 use crate::sender::Sender;
 use crate::stream_table::StreamTable;
 use ats_num::{Failure, Name};
@@ -276,7 +278,9 @@ impl Network {
     /// The network stays as it was. The first of these, in this order: `NameTaken` exactly where a
     /// stream or a flow has the name; `IdentityTaken` exactly where a stream has the same
     /// destination address and VLAN identifier; `Limit` exactly where 4096 streams are there, or
-    /// where their ports and those of the new one are more than 65,536; `Failure::NoMemory` where
+    /// where their ports and those of the new one are more than 65,536, or where, by the clocks on
+    /// its way, a rate or a burst of the new one at one of its ports is over the limits of a
+    /// scheduler, 100,000,000,000 bits per second and 1,000,000,000 bits; `Failure::NoMemory` where
     /// memory runs out.
     pub fn push_stream(&mut self, stream: Stream) -> Result<(), Failure<PushFault>>
         requires tree { IsTree self.old.topology stream.ports stream.branches }
@@ -293,7 +297,7 @@ impl Network {
         if self.is_identity_taken(stream.identity()) {
             return Err(Failure::Fault(PushFault::IdentityTaken));
         }
-        if self.is_full(stream.ports()) {
+        if self.is_beyond(&stream) {
             return Err(Failure::Fault(PushFault::Limit));
         }
         self.stream_table.push(stream)?;
@@ -309,12 +313,14 @@ impl Network {
         self.stream_table.set_class(stream, class);
     }
 
-    /// Sets a stream's committed burst, in bits: at least the wire bits of its longest frame, and at most 1,000,000,000
-    /// (IEEE Std 802.1Qcr, CommittedBurstSize). All else stays, and it takes no memory.
+    /// Sets a stream's committed burst, in bits: at least the wire bits of its longest frame, and so few that the
+    /// bursts that come of it at the stream's ports are at most 1,000,000,000 (IEEE Std 802.1Qcr, CommittedBurstSize),
+    /// as they are where it is no more than the stream's burst. All else stays, and it takes no memory.
     pub fn set_burst(&mut self, stream: u32, burst_bits: u64)
         requires stream { stream < length self.old.streams }
         requires covers { CoversLongest burst_bits (slice_index_or self.old.streams stream no_stream).max_octets }
-        requires most { IsBurst burst_bits }
+        requires rates { HasRates self.old.topology
+            (with_burst (slice_index_or self.old.streams stream no_stream) burst_bits) }
         ensures { self.new ≡ with_burst_at self.old stream burst_bits }
     {
         self.stream_table.set_burst(stream, burst_bits);
@@ -366,6 +372,14 @@ impl Network {
         let _rules = self.streams(); // for what a network keeps
         let streams = self.stream_table.as_slice();
         streams.len() >= MAX_STREAMS || ports.len() > MAX_PORTS_TOGETHER - self.stream_table.ports()
+    }
+
+    // Whether a stream is over a limit: there is no room for it, or a rate or a burst of it at one of its ports is over
+    // those of a scheduler.
+    fn is_beyond(&self, stream: &Stream) -> bool
+        ensures { result ≡ is_beyond self.now stream.now }
+    {
+        self.is_full(stream.ports()) || is_overrated(&self.shape, stream)
     }
 
     // Whether an identity is given, and one of the streams has it.

@@ -8,6 +8,7 @@ use Rattle.ats_group.specs.declared.member.Member.{Member}
 use Rattle.ats_streams.specs.Branches.{Ascend, AreBranches, first_from, leg_at, legs_from, legs_of, no_branch}
 use Rattle.ats_streams.specs.declared.branch.Branch.{Branch}
 use Rattle.ats_streams.proofs.BranchLemmas.{IsPlaced, Spans, placed, spans_between, spans_last}
+use Rattle.ats_topology.specs.Topology.{DeclaredTopology}
 use Rattle.ats_network.specs.Sender.{Sender}
 use Rattle.ats_schedulers.specs.Schedulers.{leg_members, member_behind, ports_to_bridges}
 
@@ -66,32 +67,34 @@ leg_is ports branches leg are some within = elim (cases_lt leg (length branches)
 ]
 
 -- a leg has a scheduler behind each of its ports but the last
-pub leg_count : (s : Sender) (path : List ℕ) → length (leg_members s path) ≡ length path - 1
-leg_count s path =
+pub leg_count : (topology : DeclaredTopology) (s : Sender) (path : List ℕ)
+    → length (leg_members topology s path) ≡ length path - 1
+leg_count topology s path =
     omega (
       arith,
-      length-map (ports_to_bridges path) (member_behind s),
+      length-map (ports_to_bridges path) (member_behind topology s),
       length-take (length path - 1) path,
     )
 
 -- so legs before one have as many as ports, but one for each leg
-pub counted_before : (s : Sender) (at : ℕ) (ports : List ℕ) (branches : List Branch) (leg : ℕ)
+pub counted_before : (topology : DeclaredTopology) (s : Sender) (at : ℕ) (ports : List ℕ) (branches : List Branch)
+    (leg : ℕ)
     → Ascend at branches (length ports) → leg ≤ length branches
-    → length (flat_map (leg_members s) (take leg (legs_from at ports branches))) + leg + at
+    → length (flat_map (leg_members topology s) (take leg (legs_from at ports branches))) + leg + at
     ≡ first_from at branches leg
-counted_before s at ports branches zero ascend within = omega arith
-counted_before s at ports [] (suc n) ascend within = absurd (omega arith)
-counted_before s at ports (b ∷ branches) (suc n) ascend within =
+counted_before topology s at ports branches zero ascend within = omega arith
+counted_before topology s at ports [] (suc n) ascend within = absurd (omega arith)
+counted_before topology s at ports (b ∷ branches) (suc n) ascend within =
     let own : List ℕ = slice_range ports at b.first in
-    let rest : List Member = flat_map (leg_members s) (take n (legs_from b.first ports branches)) in
+    let rest : List Member = flat_map (leg_members topology s) (take n (legs_from b.first ports branches)) in
     let long : length own ≡ b.first - at =
     omega (arith, length-take (b.first - at) (drop at ports), length-drop at ports, ascend.0, ascend.1) in
     let further : length rest + n + b.first ≡ first_from b.first branches n =
-    counted_before s b.first ports branches n ascend.2 (omega arith) in
+    counted_before topology s b.first ports branches n ascend.2 (omega arith) in
     omega (
       arith,
-      length-append (leg_members s own) rest,
-      leg_count s own,
+      length-append (leg_members topology s own) rest,
+      leg_count topology s own,
       long,
       further,
       ascend.0,
@@ -104,25 +107,26 @@ counted_before s at ports (b ∷ branches) (suc n) ascend within =
     first_step at b branches (suc n) = refl
 
 -- and all legs no more than ports
-pub counted_all : (s : Sender) (at : ℕ) (ports : List ℕ) (branches : List Branch) → Ascend at branches (length ports)
-    → length (flat_map (leg_members s) (legs_from at ports branches)) ≤ length ports - at
-counted_all s at ports [] ascend =
+pub counted_all : (topology : DeclaredTopology) (s : Sender) (at : ℕ) (ports : List ℕ) (branches : List Branch)
+    → Ascend at branches (length ports)
+    → length (flat_map (leg_members topology s) (legs_from at ports branches)) ≤ length ports - at
+counted_all topology s at ports [] ascend =
     omega (
       arith,
-      length-append (leg_members s (drop at ports)) [],
-      leg_count s (drop at ports),
+      length-append (leg_members topology s (drop at ports)) [],
+      leg_count topology s (drop at ports),
       length-drop at ports,
     )
-counted_all s at ports (b ∷ branches) ascend =
+counted_all topology s at ports (b ∷ branches) ascend =
     let own : List ℕ = slice_range ports at b.first in
-    let rest : List Member = flat_map (leg_members s) (legs_from b.first ports branches) in
+    let rest : List Member = flat_map (leg_members topology s) (legs_from b.first ports branches) in
     omega (
       arith,
-      length-append (leg_members s own) rest,
-      leg_count s own,
+      length-append (leg_members topology s own) rest,
+      leg_count topology s own,
       length-take (b.first - at) (drop at ports),
       length-drop at ports,
       ascend.0,
       ascend.1,
-      counted_all s b.first ports branches ascend.2,
+      counted_all topology s b.first ports branches ascend.2,
     )

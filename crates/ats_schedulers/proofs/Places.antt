@@ -12,6 +12,7 @@ use Rattle.ats_group.specs.GroupsState.{member_at, no_member}
 use Rattle.ats_streams.specs.Branches.{first_from, leg_at, legs_of}
 use Rattle.ats_streams.specs.Stream.{DeclaredStream}
 use Rattle.ats_streams.proofs.BranchLemmas.{legs-length}
+use Rattle.ats_topology.specs.Topology.{DeclaredTopology}
 use Rattle.ats_network.specs.Network.{DeclaredNetwork, IsNetwork, senders_of}
 use Rattle.ats_network.specs.Sender.{Sender, stream_sender, flow_sender}
 use Rattle.ats_network.specs.Senders.{IsSender, no_sender, sender_at}
@@ -56,8 +57,9 @@ in_legs s leg within = omega (arith, legs-length 0 s.ports s.branches, within)
 
 -- a hop's scheduler is one of its leg's, and its leg's are some of its stream's
 pub record InStream (network : DeclaredNetwork) (stream leg hop : ℕ) : Type 0 where
-  pub own : hop - 1 < length (leg_members (sender_at network stream) (leg_ports network stream leg))
-  pub within : first_in (sender_at network stream) leg + (hop - 1) < length (stream_members (stream_at network stream))
+  pub own : hop - 1 < length (leg_members network.topology (sender_at network stream) (leg_ports network stream leg))
+  pub within : first_in network.topology (sender_at network stream) leg + (hop - 1)
+      < length (stream_members network.topology (stream_at network stream))
 
 in_stream : (network : DeclaredNetwork) (stream leg hop : ℕ) → IsHop network stream leg hop
     → InStream network stream leg hop
@@ -65,11 +67,12 @@ unfolding stream_at
 in_stream network stream leg hop is =
     let s : Sender = sender_at network stream in
     let legs : List (List ℕ) = legs_of s.ports s.branches in
-    let own : hop - 1 < length (leg_members s (leg_at legs leg)) =
-    omega (arith, leg_count s (leg_at legs leg), is.later, is.within) in
-    let whole = length-flat_map-take (leg_members s) legs leg [] (in_legs s leg is.of_stream) in
-    let same : length (flat_map (leg_members s) legs) ≡ length (stream_members (stream_at network stream)) =
-    ap (λ (t : Sender). length (flat_map (leg_members t) (legs_of t.ports t.branches)))
+    let own : hop - 1 < length (leg_members network.topology s (leg_at legs leg)) =
+    omega (arith, leg_count network.topology s (leg_at legs leg), is.later, is.within) in
+    let whole = length-flat_map-take (leg_members network.topology s) legs leg [] (in_legs s leg is.of_stream) in
+    let same : length (flat_map (leg_members network.topology s) legs)
+    ≡ length (stream_members network.topology (stream_at network stream)) =
+    ap (λ (t : Sender). length (flat_map (leg_members network.topology t) (legs_of t.ports t.branches)))
     (sender_is network stream is.exists) in
     record { own = own; within = omega (arith, whole, own, same) }
 
@@ -78,13 +81,13 @@ pub scheduler_within : (network : DeclaredNetwork) (stream leg hop : ℕ) → Is
     → scheduler_of network stream leg hop < length (members_of network)
 unfolding stream_at
 scheduler_within network stream leg hop is =
-    let whole = length-flat_map-take stream_members network.streams stream no_stream is.exists in
+    let whole = length-flat_map-take (stream_members network.topology) network.streams stream no_stream is.exists in
     omega (arith, whole, (in_stream network stream leg hop is).within)
 
 -- it is the one behind the port before the hop
 pub scheduler_there : (network : DeclaredNetwork) (stream leg hop : ℕ) → IsHop network stream leg hop
     → member_at (members_of network) (scheduler_of network stream leg hop)
-    ≡ member_behind (sender_at network stream) (get_or (leg_ports network stream leg) (hop - 1) 0)
+    ≡ member_behind network.topology (sender_at network stream) (get_or (leg_ports network stream leg) (hop - 1) 0)
 unfolding stream_at
 scheduler_there network stream leg hop is =
     let own : DeclaredStream = stream_at network stream in
@@ -94,34 +97,43 @@ scheduler_there network stream leg hop is =
     let path : List ℕ = leg_at legs leg in
     let place = in_stream network stream leg hop is in
     let at : scheduler_of network stream leg hop
-    ≡ first_of network.streams stream + (first_in s leg + (hop - 1)) = omega arith in
-    let in_all : member_at (members_of network) (first_of network.streams stream + (first_in s leg + (hop - 1)))
-    ≡ member_at (stream_members own) (first_in s leg + (hop - 1)) =
-    get_or-flat_map stream_members network.streams stream (first_in s leg + (hop - 1)) no_stream no_member is.exists
+    ≡ first_of network.topology network.streams stream + (first_in network.topology s leg + (hop - 1)) = omega arith in
+    let in_all : member_at (members_of network)
+    (first_of network.topology network.streams stream + (first_in network.topology s leg + (hop - 1)))
+    ≡ member_at (stream_members network.topology own) (first_in network.topology s leg + (hop - 1)) =
+    get_or-flat_map (stream_members network.topology) network.streams stream
+    (first_in network.topology s leg + (hop - 1)) no_stream no_member is.exists
     place.within in
-    let in_own : member_at (flat_map (leg_members s) legs) (first_in s leg + (hop - 1))
-    ≡ member_at (leg_members s path) (hop - 1) =
-    get_or-flat_map (leg_members s) legs leg (hop - 1) [] no_member (in_legs s leg is.of_stream) place.own in
+    let in_own : member_at (flat_map (leg_members network.topology s) legs)
+    (first_in network.topology s leg + (hop - 1))
+    ≡ member_at (leg_members network.topology s path) (hop - 1) =
+    get_or-flat_map (leg_members network.topology s) legs leg (hop - 1) [] no_member (in_legs s leg is.of_stream)
+    place.own in
     let cut = length-take (length path - 1) path in
     ap (member_at (members_of network)) at
     ∙ in_all
-    ∙ sym (ap (λ (t : Sender). member_at (flat_map (leg_members t) (legs_of t.ports t.branches))
-    (first_in s leg + (hop - 1))) same)
+    ∙ sym (ap (λ (t : Sender). member_at (flat_map (leg_members network.topology t) (legs_of t.ports t.branches))
+    (first_in network.topology s leg + (hop - 1))) same)
     ∙ in_own
-    ∙ get_or-map (member_behind s) (ports_to_bridges path) (hop - 1) 0 no_member
+    ∙ get_or-map (member_behind network.topology s) (ports_to_bridges path) (hop - 1) 0 no_member
     (omega (arith, cut, is.later, is.within))
-    ∙ ap (member_behind s) (get_or-take (length path - 1) path (hop - 1) 0 (omega (arith, is.later, is.within)))
+    ∙ ap (member_behind network.topology s) (get_or-take (length path - 1) path (hop - 1) 0
+    (omega (arith, is.later, is.within)))
 
 -- the place that is kept for a stream
-pub first_there : (streams : List DeclaredStream) (firsts : List ℕ) (stream d : ℕ) → firsts ≡ firsts_of streams
-    → stream < length streams → get_or firsts stream d ≡ first_of streams stream
-first_there streams firsts stream d kept within =
-    rw kept (get_or-map-range_with_len (first_of streams) 0 (length streams) stream stream d within (omega arith))
+pub first_there : (topology : DeclaredTopology) (streams : List DeclaredStream) (firsts : List ℕ) (stream d : ℕ)
+    → firsts ≡ firsts_of topology streams
+    → stream < length streams → get_or firsts stream d ≡ first_of topology streams stream
+first_there topology streams firsts stream d kept within =
+    rw kept (get_or-map-range_with_len (first_of topology streams) 0 (length streams) stream stream d within
+    (omega arith))
 
 -- each stream has one
-pub firsts_long : (streams : List DeclaredStream) (firsts : List ℕ) → firsts ≡ firsts_of streams
+pub firsts_long : (topology : DeclaredTopology) (streams : List DeclaredStream) (firsts : List ℕ)
+    → firsts ≡ firsts_of topology streams
     → length firsts ≡ length streams
-firsts_long streams firsts kept = rw kept (length-map-range_with_len (first_of streams) 0 (length streams))
+firsts_long topology streams firsts kept =
+    rw kept (length-map-range_with_len (first_of topology streams) 0 (length streams))
 
 -- what is known of a place that is made of a stream's first one
 pub record IsPlace (network : DeclaredNetwork) (stream leg hop made : ℕ) : Type 0 where
@@ -129,12 +141,13 @@ pub record IsPlace (network : DeclaredNetwork) (stream leg hop made : ℕ) : Typ
   pub within : made < length (members_of network)
   pub small : made < 100000
   pub member : member_at (members_of network) made
-      ≡ member_behind (sender_at network stream) (get_or (leg_ports network stream leg) (hop - 1) 0)
+      ≡ member_behind network.topology (sender_at network stream) (get_or (leg_ports network stream leg) (hop - 1) 0)
 
 -- the schedulers of the legs before one are as many as their ports, but one for each
 before_is : (network : DeclaredNetwork) (stream leg : ℕ) → IsNetwork network → stream < length network.streams
     → leg ≤ length (sender_at network stream).branches
-    → first_in (sender_at network stream) leg + leg ≡ first_from 0 (sender_at network stream).branches leg
+    → first_in network.topology (sender_at network stream) leg + leg
+    ≡ first_from 0 (sender_at network stream).branches leg
 before_is network stream leg rules exists within =
     let s : Sender = sender_at network stream in
     let senders : stream < length (senders_of network) =
@@ -145,18 +158,19 @@ before_is network stream leg rules exists within =
       length-map network.streams stream_sender,
     ) in
     let is : IsSender network.topology s = each_is_sender network rules stream no_sender senders in
-    omega (arith, counted_before s 0 s.ports s.branches leg is.branches.places within)
+    omega (arith, counted_before network.topology s 0 s.ports s.branches leg is.branches.places within)
 
 pub placed : (network inside : DeclaredNetwork) (firsts items : List ℕ) (stream leg hop ports d : ℕ)
-    → network ≡ inside → items ≡ firsts → firsts ≡ firsts_of inside.streams → IsNetwork inside
+    → network ≡ inside → items ≡ firsts → firsts ≡ firsts_of inside.topology inside.streams → IsNetwork inside
     → IsHop network stream leg hop → ports ≡ first_from 0 (sender_at network stream).branches leg
     → IsPlace network stream leg hop (get_or items stream d + (ports - leg) + (hop - 1))
 placed network inside firsts items stream leg hop ports d e i kept rules is first =
     let exists : stream < length inside.streams =
     subst (λ (n : DeclaredNetwork). stream < length n.streams) e is.exists in
-    let read : get_or items stream d ≡ first_of network.streams stream =
-    ap (λ (places : List ℕ). get_or places stream d) i ∙ first_there inside.streams firsts stream d kept exists
-    ∙ sym (ap (λ (n : DeclaredNetwork). first_of n.streams stream) e) in
+    let read : get_or items stream d ≡ first_of network.topology network.streams stream =
+    ap (λ (places : List ℕ). get_or places stream d) i
+    ∙ first_there inside.topology inside.streams firsts stream d kept exists
+    ∙ sym (ap (λ (n : DeclaredNetwork). first_of n.topology n.streams stream) e) in
     let lawful : IsNetwork network = subst IsNetwork (sym e) rules in
     let before = before_is network stream leg lawful is.exists is.of_stream in
     let place : get_or items stream d + (ports - leg) + (hop - 1) ≡ scheduler_of network stream leg hop =
@@ -196,30 +210,34 @@ no_less network stream leg ports rules exists within first =
 
 -- and that there is one
 pub place_there : (network inside : DeclaredNetwork) (firsts items : List ℕ) (stream : ℕ) → network ≡ inside
-    → items ≡ firsts → firsts ≡ firsts_of inside.streams → stream < length network.streams → stream < length items
+    → items ≡ firsts → firsts ≡ firsts_of inside.topology inside.streams → stream < length network.streams
+    → stream < length items
 place_there network inside firsts items stream e i kept exists =
     let same = ap (λ (n : DeclaredNetwork). length n.streams) e in
-    let long = firsts_long inside.streams firsts kept in
+    let long = firsts_long inside.topology inside.streams firsts kept in
     let read = ap (λ (places : List ℕ). length places) i in
     omega (arith, same, long, read, exists)
 
 -- a stream's schedulers come before those of each later stream
 before_later : (network : DeclaredNetwork) (stream other leg hop : ℕ) → IsHop network stream leg hop → stream < other
-    → other < length network.streams → scheduler_of network stream leg hop < first_of network.streams other
+    → other < length network.streams
+    → scheduler_of network stream leg hop < first_of network.topology network.streams other
 unfolding stream_at
 before_later network stream other leg hop is earlier within =
     let front : List DeclaredStream = take other network.streams in
     let long : length front ≡ other = length-take-within other network.streams within in
-    let whole = length-flat_map-take stream_members front stream no_stream (omega (arith, long, earlier)) in
+    let whole = length-flat_map-take (stream_members network.topology) front stream no_stream
+    (omega (arith, long, earlier)) in
     let shorter : take stream front ≡ take stream network.streams =
     take_of_take stream other network.streams (omega arith) in
     let same : get_or front stream no_stream ≡ stream_at network stream =
     get_or-take other network.streams stream no_stream earlier in
-    let first : length (flat_map stream_members (take stream front)) ≡ first_of network.streams stream =
-    ap (λ (streams : List DeclaredStream). length (flat_map stream_members streams)) shorter in
-    let own : length (stream_members (get_or front stream no_stream))
-    ≡ length (stream_members (stream_at network stream)) =
-    ap (λ (s : DeclaredStream). length (stream_members s)) same in
+    let first : length (flat_map (stream_members network.topology) (take stream front))
+    ≡ first_of network.topology network.streams stream =
+    ap (λ (streams : List DeclaredStream). length (flat_map (stream_members network.topology) streams)) shorter in
+    let own : length (stream_members network.topology (get_or front stream no_stream))
+    ≡ length (stream_members network.topology (stream_at network stream)) =
+    ap (λ (s : DeclaredStream). length (stream_members network.topology s)) same in
     omega (arith, whole, first, own, (in_stream network stream leg hop is).within)
   where
     length-take-within : (n : ℕ) (streams : List DeclaredStream) → n < length streams → length (take n streams) ≡ n
@@ -235,20 +253,21 @@ before_later network stream other leg hop is earlier within =
 -- and those of a leg before those of each later leg
 leg_before : (network : DeclaredNetwork) (stream leg next hop : ℕ) → IsNetwork network → IsHop network stream leg hop
     → leg < next → next ≤ length (sender_at network stream).branches
-    → first_in (sender_at network stream) leg + (hop - 1) < first_in (sender_at network stream) next
+    → first_in network.topology (sender_at network stream) leg + (hop - 1)
+    < first_in network.topology (sender_at network stream) next
 leg_before network stream leg next hop rules is earlier within =
     let s : Sender = sender_at network stream in
     let legs : List (List ℕ) = legs_of s.ports s.branches in
     let front : List (List ℕ) = take next legs in
     let long : length front ≡ next = omega (arith, length-take next legs, in_legs s next within) in
-    let whole = length-flat_map-take (leg_members s) front leg [] (omega (arith, long, earlier)) in
+    let whole = length-flat_map-take (leg_members network.topology s) front leg [] (omega (arith, long, earlier)) in
     let shorter : take leg front ≡ take leg legs = take_of_legs leg next legs (omega (arith, earlier)) in
     let same : get_or front leg [] ≡ leg_at legs leg = get_or-take next legs leg [] earlier in
     omega (
       arith,
       whole,
-      ap (λ (l : List (List ℕ)). length (flat_map (leg_members s) l)) shorter,
-      ap (λ (l : List ℕ). length (leg_members s l)) same,
+      ap (λ (l : List (List ℕ)). length (flat_map (leg_members network.topology s) l)) shorter,
+      ap (λ (l : List ℕ). length (leg_members network.topology s l)) same,
       (in_stream network stream leg hop is).own,
     )
   where
@@ -276,7 +295,7 @@ schedulers_are_apart network stream other leg next hop later rules is is_too sam
             → (leg ≡ next) × (hop ≡ later)
         legs (inl l) there equal = (
           l,
-          omega (arith, equal, ap (first_in (sender_at network stream)) l, is.later, there.later),
+          omega (arith, equal, ap (first_in network.topology (sender_at network stream)) l, is.later, there.later),
         )
         legs (inr (inl l)) there equal =
             absurd (omega (arith, equal, leg_before network stream leg next hop rules is l there.of_stream))

@@ -43,7 +43,7 @@ impl<'a> Schedulers<'a> {
         ensures { IfOk result (λ schedulers. schedulers ≡ network.now) }
     {
         let residence_list = residences_of(alloc, network)?;
-        let (member_list, firsts) = listed(alloc, network.streams())?;
+        let (member_list, firsts) = listed(alloc, network.topology(), network.streams())?;
         Ok(Schedulers {
             network,
             residence_list,
@@ -63,7 +63,7 @@ impl<'a> Schedulers<'a> {
     }
 
     /// The members of all groups: for each stream, leg after leg, and for each port of a leg but its last, the
-    /// scheduler behind this port, with what the stream declares.
+    /// scheduler behind this port, with the rate and burst that it has there.
     pub fn members(&self) -> &[Member]
         ensures value { result.now ≡ members_of self.now }
         ensures members { AreMembers (8 * length self.now.topology.ports) result.now }
@@ -77,7 +77,8 @@ impl<'a> Schedulers<'a> {
         requires { IsHop self.now stream leg hop }
         ensures place { result ≡ scheduler_of self.now stream leg hop }
         ensures within { result < length (members_of self.now) }
-        ensures member { member_at (members_of self.now) result ≡ member_behind (sender_at self.now stream)
+        ensures member { member_at (members_of self.now) result ≡ member_behind self.now.topology
+            (sender_at self.now stream)
             (slice_index_or (leg_ports self.now stream leg) (hop - 1) 0) }
     {
         let firsts = self.firsts.as_slice();

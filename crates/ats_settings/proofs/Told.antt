@@ -53,15 +53,15 @@ schedulers_are_told network stream leg hop place is on =
     comes_from network stream place before is (is_sender network stream leg hop on.judged) on.within
     (subst (IsFrom s.branches place) next on.from) in
     let there : member_at (members_of network) (scheduler_of network stream leg hop)
-    ≡ member_behind s (port_at_place network stream before) =
+    ≡ member_behind network.topology s (port_at_place network stream before) =
     scheduler_there network stream leg hop on.judged
-    ∙ ap (member_behind s) (port_in_front network stream leg hop is on.judged) in
+    ∙ ap (member_behind network.topology s) (port_in_front network stream leg hop is on.judged) in
     subst (λ x. Tells network x (member_at (members_of network) (scheduler_of network stream leg hop)))
     (sym (setting_is network stream place before from))
     (subst (λ (m : Member). Tells network (setting_from network stream place (port_at_place network stream before)) m)
     (sym there) (record {
       group = refl;
       scheduler = ap (λ (t : Bool). cond t
-          (Some (shaping_of network (member_behind s (port_at_place network stream before)))) None)
+          (Some (shaping_of network (member_behind network.topology s (port_at_place network stream before)))) None)
           (lt-ltb stream (length network.streams) on.judged.exists);
     }))

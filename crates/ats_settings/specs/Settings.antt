@@ -13,8 +13,8 @@ use Rattle.ats_schedulers.specs.Schedulers.{member_behind, residences_of}
 use Rattle.ats_settings.specs.declared.setting.Setting.{Setting}
 use Rattle.ats_settings.specs.declared.setting.Shaping.{Shaping}
 
--- what is told of the scheduler of a member of the network's groups: what is declared of it there, and the maximum
--- residence time of its group
+-- what is told of the scheduler of a member of the network's groups: the rate and burst that it has there, and the
+-- maximum residence time of its group
 abbrev pub shaping_of : DeclaredNetwork → Member → Shaping
 shaping_of network member = record {
   rate_bps = member.declared.rate;
@@ -26,7 +26,7 @@ shaping_of network member = record {
 abbrev pub scheduler_behind : DeclaredNetwork → ℕ → ℕ → Option Shaping
 scheduler_behind network sender port =
     if nat_lt sender (length network.streams)
-    then Some (shaping_of network (member_behind (sender_at network sender) port))
+    then Some (shaping_of network (member_behind network.topology (sender_at network sender) port))
     else None
 
 -- the port at a place of a sender's ports

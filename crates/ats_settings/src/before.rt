@@ -13,7 +13,7 @@ use ats_streams::Stream;
 
 /// The place, among a sender's ports, of the port before the one at this place; `None` where that one leaves the
 /// talker. It takes no memory.
-pub(crate) fn place_before(network: &Network, sender: u32, place: u32) -> Option<u32>
+pub fn place_before(network: &Network, sender: u32, place: u32) -> Option<u32>
     requires sender { sender < length (senders_of network.now) }
     requires place { place < length (sender_at network.now sender).ports }
     ensures within { IfSome result (λ before. before < length (sender_at network.now sender).ports) }

@@ -7,5 +7,6 @@ pub mod laws;
 pub mod listing;
 pub mod setting;
 
+pub use before::place_before;
 pub use listing::settings;
 pub use setting::{Setting, Shaping};

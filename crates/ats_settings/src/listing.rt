@@ -2,6 +2,7 @@
 
 ghost use Rattle.std.specs.Prelude.{◌≡◌, ◌++◌, ◌<◌, length, All, IfOk, OnOk, Some};
 ghost use Rattle.ats_network.specs.Network.{senders_of};
+ghost use Rattle.ats_network.specs.Rates.{IsRated};
 ghost use Rattle.ats_network.specs.Senders.{sender_at};
 ghost use Rattle.ats_network.specs.SenderView.{sender_of};
 ghost use Rattle.ats_settings.specs.Settings.{AreInOrder, AreSettings, IsSettingOf, port_at_place, port_behind};
@@ -9,7 +10,7 @@ ghost use Rattle.ats_settings.specs.Settings.{scheduler_behind, sender_settings,
 
 use crate::before::place_before;
 use crate::setting::{Setting, Shaping};
-use ats_network::{Network, Sender};
+use ats_network::{Network, Sender, scheduled_at};
 use std::alloc::{AllocError, Global};
 
 /// What to set in the bridges of a network: one setting for each stream and flow and each port by which its frames
@@ -83,15 +84,18 @@ fn setting(network: &Network, sender: u32, place: u32, before: u32) -> Setting
 fn scheduler(network: &Network, sender: u32, received_from: u32) -> Option<Shaping>
     requires sender { sender < length (senders_of network.now) }
     requires port { received_from < length network.now.topology.ports }
+    requires rated { sender < length network.now.streams
+        → IsRated network.now.topology (sender_at network.now sender) received_from }
     ensures { result ≡ scheduler_behind network.now sender received_from }
 {
     if sender as usize >= network.streams().len() {
         return None;
     }
     let stream = &network.streams()[sender as usize];
+    let scheduler = scheduled_at(network.topology(), stream, received_from);
     Some(Shaping {
-        rate_bps: stream.rate().bps(),
-        burst_bits: stream.burst_bits(),
+        rate_bps: scheduler.rate.bps(),
+        burst_bits: scheduler.burst_bits,
         residence_ns: network.residence(received_from).unwrap_or(0),
     })
 }

@@ -17,9 +17,10 @@ use Rattle.ats_network.specs.Senders.{IsSender, sender_at}
 use Rattle.ats_network.proofs.ClassLemmas.{class_at-le}
 use Rattle.ats_network.proofs.SenderLemmas.{sender_keeps}
 use Rattle.ats_schedulers.specs.Schedulers.{member_behind}
-use Rattle.ats_trace.specs.Eligibility.{declared_by, residence_of_groups}
+use Rattle.ats_trace.specs.Eligibility.{declared_by, residence_of_groups, scheduled_by}
 use Rattle.ats_settings.specs.Settings.{AreSettings, LeavesBridge, port_at_place, scheduler_behind, shaping_of}
 use Rattle.ats_settings.specs.declared.setting.Setting.{Setting}
+use Rattle.ats_settings.specs.declared.setting.Shaping.{Shaping}
 use Rattle.ats_settings.proofs.Behind.{residence_behind}
 use Rattle.ats_settings.proofs.BeforeLemmas.{ComesFrom, HasBefore, has_before, port_below}
 use Rattle.ats_settings.proofs.Places.{each_setting, setting_from, setting_is}
@@ -27,10 +28,14 @@ use Rattle.ats_settings_law.specs.Laws.{AreSetAlike, EachSettingIsTrue, GroupsJu
 use Rattle.ats_settings_law.specs.Laws.{IsSchedulerOf, IsTrueOf, SizesPassAlike}
 use Rattle.ats_settings_law.proofs.Alike.{AreAlike, IsFit, same-size, same-verdicts}
 
--- what is told of the scheduler behind a port
+-- what is told of a sender's scheduler behind a port
+abbrev told_behind : DeclaredNetwork → ℕ → ℕ → Shaping
+told_behind network sender port =
+    shaping_of network (member_behind network.topology (sender_at network sender) port)
+
 shaping_is : (network : DeclaredNetwork) (stream port : ℕ) → IsNetwork network → stream < length (senders_of network)
     → port < length network.topology.ports
-    → IsSchedulerOf network stream port (shaping_of network (member_behind (sender_at network stream) port))
+    → IsSchedulerOf network stream port (told_behind network stream port)
 shaping_is network stream port is exists below =
     let s : Sender = sender_at network stream in
     let keeps : IsSender network.topology s = sender_keeps network stream is exists in
@@ -46,10 +51,10 @@ scheduler_is : (network : DeclaredNetwork) (sender port : ℕ) → IsNetwork net
     → ForSome (scheduler_behind network sender port) (IsSchedulerOf network sender port)
 scheduler_is network sender port is exists below = by (nat_lt sender (length network.streams))
   where
-    by : (t : Bool) → ForSome (cond t (Some (shaping_of network (member_behind (sender_at network sender) port))) None)
-        (IsSchedulerOf network sender port)
+    by : (t : Bool)
+        → ForSome (cond t (Some (told_behind network sender port)) None) (IsSchedulerOf network sender port)
     by true = λ told e. subst (IsSchedulerOf network sender port)
-        (same_Some (shaping_of network (member_behind (sender_at network sender) port)) told e)
+        (same_Some (told_behind network sender port) told e)
         (shaping_is network sender port is exists below)
     by false = λ told e. absurd (none-some told e)
 
@@ -59,8 +64,7 @@ scheduler_if_stream : (network : DeclaredNetwork) (sender port : ℕ)
 scheduler_if_stream network sender port = by (nat_lt sender (length network.streams)) refl
   where
     by : (t : Bool) → nat_lt sender (length network.streams) ≡ t
-        → IsSome (cond t (Some (shaping_of network (member_behind (sender_at network sender) port))) None)
-        ↔ (sender < length network.streams)
+        → IsSome (cond t (Some (told_behind network sender port)) None) ↔ (sender < length network.streams)
     by true below = (λ h. ltb-true sender (length network.streams) below, λ h. refl)
     by false past = (λ h. cc, λ h. absurd (omega (arith, h, ltb-false sender (length network.streams) past)))
 
@@ -97,7 +101,7 @@ true_among network settings s is are among =
 -- a frame that both networks know is of a member that is declared alike
 fit_of : (one other : DeclaredNetwork) (settings : List Setting) (port : ℕ) (offer : Offer)
     → AreSetAlike one other settings → IsKnown one other settings port offer
-    → IsFit (declared_by one) (declared_by other) offer
+    → IsFit (scheduled_by one port) (scheduled_by other port) offer
 fit_of one other settings port offer alike known =
     let s : Setting = known.named.setting in
     let here : IsTrueOf one s =
@@ -108,26 +112,28 @@ fit_of one other settings port offer alike known =
     here.scheduler known.scheduler known.shaped in
     let told_there : IsSchedulerOf other s.sender s.received_from known.scheduler =
     there.scheduler known.scheduler known.shaped in
-    let both : AreAlike (declared_by one s.sender) (declared_by other s.sender) = record {
+    let Alike : ℕ → ℕ → Type 0 = λ (p m : ℕ). AreAlike (scheduled_by one p m) (scheduled_by other p m) in
+    let both : Alike s.received_from s.sender = record {
       rate = sym told.rate ∙ told_there.rate;
       burst = sym told.burst ∙ told_there.burst;
       most = sym here.most ∙ there.most;
     } in
     record {
-      alike = subst (λ (m : ℕ). AreAlike (declared_by one m) (declared_by other m)) known.named.of_sender both;
+      alike = subst (Alike port) known.named.of_sender
+          (subst (λ (p : ℕ). Alike p s.sender) known.named.behind both);
       least = known.not_short;
       least_there = known.not_short_there;
     }
 
 pub groups_judge_alike : GroupsJudgeAlike
 groups_judge_alike one other settings alike port offers known =
-    let fit : All (IsFit (declared_by one) (declared_by other)) offers =
-    All-weaker (IsKnown one other settings port) (IsFit (declared_by one) (declared_by other))
+    let fit : All (IsFit (scheduled_by one port) (scheduled_by other port)) offers =
+    All-weaker (IsKnown one other settings port) (IsFit (scheduled_by one port) (scheduled_by other port))
     (λ offer h. fit_of one other settings port offer alike h) offers known in
     let residence : residence_of_groups one port ≡ residence_of_groups other port =
     ap (λ (t : DeclaredTopology). unwrap_or (residence_after t port) 0) alike.topology in
-    same-verdicts (declared_by one) (declared_by other) (residence_of_groups one port) offers fit
-    ∙ ap (λ (r : ℕ). verdicts_of (declared_by other) r (first (declared_by other)) offers) residence
+    same-verdicts (scheduled_by one port) (scheduled_by other port) (residence_of_groups one port) offers fit
+    ∙ ap (λ (r : ℕ). verdicts_of (scheduled_by other port) r (first (scheduled_by other port)) offers) residence
 
 pub sizes_pass_alike : SizesPassAlike
 sizes_pass_alike one other settings alike port offer named long long_there =

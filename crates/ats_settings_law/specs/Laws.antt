@@ -7,16 +7,16 @@ use Rattle.ats_topology.specs.Port.{port_at}
 use Rattle.ats_network.specs.Class.{class_at, port_before}
 use Rattle.ats_network.specs.Network.{DeclaredNetwork, IsNetwork, senders_of}
 use Rattle.ats_network.specs.Senders.{sender_at}
-use Rattle.ats_trace.specs.Eligibility.{declared_by, residence_of_groups}
+use Rattle.ats_trace.specs.Eligibility.{declared_by, residence_of_groups, scheduled_by}
 use Rattle.ats_settings.specs.Settings.{AreSettings}
 use Rattle.ats_settings.specs.declared.setting.Setting.{Setting}
 use Rattle.ats_settings.specs.declared.setting.Shaping.{Shaping}
 
--- what is told of a sender's scheduler is what the network declares of the sender, and the maximum residence time of
--- the groups behind a port
+-- what is told of a sender's scheduler is the rate and the burst that it has behind a port, and the maximum residence
+-- time of the groups there
 pub record IsSchedulerOf (network : DeclaredNetwork) (sender port : ℕ) (told : Shaping) : Type 0 where
-  pub rate : told.rate_bps ≡ (declared_by network sender).rate
-  pub burst : told.burst_bits ≡ (declared_by network sender).burst_bits
+  pub rate : told.rate_bps ≡ (scheduled_by network port sender).rate
+  pub burst : told.burst_bits ≡ (scheduled_by network port sender).burst_bits
   pub residence : told.residence_ns ≡ residence_of_groups network port
 
 -- what a setting tells is so in the network: its sender goes on by the one port from the other, which leads to that
@@ -80,8 +80,8 @@ pub record IsKnown (one other : DeclaredNetwork) (settings : List Setting) (port
 abbrev pub GroupsJudgeAlike : Type 0
 GroupsJudgeAlike = (one other : DeclaredNetwork) (settings : List Setting) → AreSetAlike one other settings
     → (port : ℕ) (offers : List Offer) → All (IsKnown one other settings port) offers
-    → ats_judge (declared_by one) (residence_of_groups one port) offers
-    ≡ ats_judge (declared_by other) (residence_of_groups other port) offers
+    → ats_judge (scheduled_by one port) (residence_of_groups one port) offers
+    ≡ ats_judge (scheduled_by other port) (residence_of_groups other port) offers
 
 -- and they let pass alike, by its size, each frame of a stream or flow that the settings name, if it is not shorter
 -- than is declared

@@ -15,8 +15,8 @@ pub fn each_hop_is_named()
 {}
 
 /// A law: each setting of a network tells what is so in it: by which port its stream or flow goes on
-/// from which, to which bridge that one leads, its classes there, its greatest size, and what is declared
-/// of its scheduler, which a stream has and a flow has not.
+/// from which, to which bridge that one leads, its classes there, its greatest size, and what its scheduler
+/// has there, which a stream has and a flow has not.
 pub fn each_setting_is_true()
     ensures { EachSettingIsTrue }
 {}

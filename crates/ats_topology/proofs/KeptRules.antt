@@ -1,4 +1,4 @@
-use Rattle.std.proofs.Common.{◌≡◌, ℕ, List, length, sym, ap, ◌∙◌, subst, arith, Option, Some, None, IfSome, true}
+use Rattle.std.proofs.Common.{◌≡◌, ℕ, Bool, List, length, sym, ap, ◌∙◌, subst, arith, Option, Some, None, IfSome, true}
 use Rattle.std.specs.Prelude.{◌==◌}
 use Rattle.std.proofs.lemmas.Bool.{eqb-true, and_parts}
 use Rattle.std.specs.List.{All}
@@ -15,7 +15,7 @@ use Rattle.ats_topology.proofs.PositionLemmas.{IsFound, found}
 
 -- what is kept beside nodes and links makes them a topology
 pub kept_rules : (nodes : List Node) (links : List Link) (table : List (List ℕ))
-    (between : NodePorts) (value : DeclaredTopology) → AreKept nodes links table between
+    (between : NodePorts) {ideal : Bool} (value : DeclaredTopology) → AreKept nodes links table between ideal
     → record { nodes = nodes; links = links; ports = between.ports } ≡ value → IsTopology value
 kept_rules nodes links table between value kept is =
     let with_ports : List Port → DeclaredTopology = λ ports. record { nodes = nodes; links = links; ports = ports } in
@@ -24,13 +24,13 @@ kept_rules nodes links table between value kept is =
 
 -- and its ports keep what those of a topology keep
 pub kept_ports : (nodes : List Node) (links : List Link) (table : List (List ℕ))
-    (between : NodePorts) (value : DeclaredTopology) → AreKept nodes links table between
+    (between : NodePorts) {ideal : Bool} (value : DeclaredTopology) → AreKept nodes links table between ideal
     → record { nodes = nodes; links = links; ports = between.ports } ≡ value → HasLawfulPorts value
 kept_ports nodes links table between value kept is =
     ports_are_lawful value (kept_rules nodes links table between value kept is)
 
-own_ports : (nodes : List Node) (links : List Link) (table : List (List ℕ)) (between : NodePorts)
-    → AreKept nodes links table between → HasLawfulPorts (topology_of nodes links)
+own_ports : (nodes : List Node) (links : List Link) (table : List (List ℕ)) (between : NodePorts) {ideal : Bool}
+    → AreKept nodes links table between ideal → HasLawfulPorts (topology_of nodes links)
 own_ports nodes links table between kept =
     ports_are_lawful (topology_of nodes links) (topology_rules nodes links kept.sound)
 
@@ -39,14 +39,14 @@ pub all_between : (nodes : ℕ) (ports : List Port) → All (IsPort nodes) ports
 all_between nodes ports each = All-weaker (IsPort nodes) (IsBetween nodes) (λ p h. h.between) ports each
 
 -- the same of the table of ports
-pub table_between : (nodes : List Node) (links : List Link) (table : List (List ℕ)) (between : NodePorts)
-    → AreKept nodes links table between → All (IsBetween between.nodes) between.ports
+pub table_between : (nodes : List Node) (links : List Link) (table : List (List ℕ)) (between : NodePorts) {ideal : Bool}
+    → AreKept nodes links table between ideal → All (IsBetween between.nodes) between.ports
 table_between nodes links table between kept =
     subst (λ (v : NodePorts). All (IsBetween v.nodes) v.ports) (sym kept.ports)
     (all_between (length nodes) (ports_of nodes links) (own_ports nodes links table between kept).each)
 
-pub table_paired : (nodes : List Node) (links : List Link) (table : List (List ℕ)) (between : NodePorts)
-    → AreKept nodes links table between → ArePaired between.ports
+pub table_paired : (nodes : List Node) (links : List Link) (table : List (List ℕ)) (between : NodePorts) {ideal : Bool}
+    → AreKept nodes links table between ideal → ArePaired between.ports
 table_paired nodes links table between kept =
     subst (λ (v : NodePorts). ArePaired v.ports) (sym kept.ports) (own_ports nodes links table between kept).paired
 

@@ -13,8 +13,9 @@ use Rattle.std.proofs.lemmas.List.Elements.{All-nil, All-cons, All-head, All-tai
 use Rattle.std.proofs.lemmas.Slice.Eq.{bytes_eq-Decides}
 use Rattle.ats_facts.proofs.Options.{option_or-none, cond-none}
 use Rattle.ats_num.specs.Places.{place_of}
+use Rattle.ats_clock.specs.declared.clock.TheConstants.{MAX_DEVIATION_PPM, MAX_STEP_PS}
 use Rattle.ats_topology.specs.Node.{names_of, is_station, least_processing_of, greatest_processing_of, residence_of}
-use Rattle.ats_topology.specs.Node.{AreApart}
+use Rattle.ats_topology.specs.Node.{AreApart, clock_of}
 use Rattle.ats_topology.specs.Link.{ends_at, is_self_link}
 use Rattle.ats_topology.specs.Rates.{ps_per_bit_of, link_rates, IsPsPerBit}
 use Rattle.ats_topology.specs.Port.{port_at, leaves, leads_to, HasBack, ArePaired}
@@ -72,6 +73,13 @@ any_false t (x ∷ xs) h =
     let parts : (t x ≡ false) × (list_any t xs ≡ false) = or_parts (t x) (list_any t xs) h in
     All-cons (λ y. t y ≡ false) x xs parts.0 (any_false t xs parts.1)
 
+four_parts : (a b d e : Bool) → (a || b || d || e) ≡ false
+    → (a ≡ false) × (b ≡ false) × (d ≡ false) × (e ≡ false)
+four_parts true b d e h = absurd (true≢false h)
+four_parts false true d e h = absurd (true≢false h)
+four_parts false false true e h = absurd (true≢false h)
+four_parts false false false e h = (refl, refl, refl, h)
+
 -- all that is within its limit
 record IsWithinLimits (nodes : List Node) (links : List Link) : Type 0 where
   few_nodes : length nodes ≤ MAX_NODES
@@ -81,14 +89,19 @@ record IsWithinLimits (nodes : List Node) (links : List Link) : Type 0 where
 
 is_node : (node : Node) → is_node_over node ≡ false → has_bad_processing node ≡ false → IsNode node
 is_node node h ordered =
-    let parts : (nat_lt MAX_PROCESSING_NS (greatest_processing_of node.kind) ≡ false)
-    × (nat_lt MAX_RESIDENCE_NS (residence_of node.kind) ≡ false) =
-    or_parts (nat_lt MAX_PROCESSING_NS (greatest_processing_of node.kind))
-    (nat_lt MAX_RESIDENCE_NS (residence_of node.kind)) h in
+    let a : Bool = nat_lt MAX_PROCESSING_NS (greatest_processing_of node.kind) in
+    let b : Bool = nat_lt MAX_RESIDENCE_NS (residence_of node.kind) in
+    let d : Bool = nat_lt MAX_DEVIATION_PPM (clock_of node.kind).deviation_ppm in
+    let e : Bool = nat_lt MAX_STEP_PS (clock_of node.kind).step_ps in
+    let parts : (a ≡ false) × (b ≡ false) × (d ≡ false) × (e ≡ false) = four_parts a b d e h in
     record {
       ordered = ltb-false (greatest_processing_of node.kind) (least_processing_of node.kind) ordered;
       processing = ltb-false MAX_PROCESSING_NS (greatest_processing_of node.kind) parts.0;
       residence = ltb-false MAX_RESIDENCE_NS (residence_of node.kind) parts.1;
+      clock = record {
+        deviation = ltb-false MAX_DEVIATION_PPM (clock_of node.kind).deviation_ppm parts.2;
+        step = ltb-false MAX_STEP_PS (clock_of node.kind).step_ps parts.3;
+      };
     }
 
 limits : (nodes : List Node) (links : List Link) → is_over nodes links ≡ false → IsWithinLimits nodes links
@@ -97,7 +110,7 @@ limits nodes links h =
     let b : Bool = nat_lt MAX_LINKS (length links) in
     let d : Bool = list_any is_node_over nodes in
     let e : Bool = list_any is_link_over links in
-    let parts : (a ≡ false) × (b ≡ false) × (d ≡ false) × (e ≡ false) = four a b d e h in
+    let parts : (a ≡ false) × (b ≡ false) × (d ≡ false) × (e ≡ false) = four_parts a b d e h in
     record {
       few_nodes = ltb-false MAX_NODES (length nodes) parts.0;
       few_links = ltb-false MAX_LINKS (length links) parts.1;
@@ -106,12 +119,6 @@ limits nodes links h =
           All-weaker (λ (l : Link). is_link_over l ≡ false) (λ (l : Link). l.propagation_ns ≤ MAX_PROPAGATION_NS)
           (λ l g. ltb-false MAX_PROPAGATION_NS l.propagation_ns g) links (any_false is_link_over links parts.3);
     }
-  where
-    four : (a b d e : Bool) → (a || b || d || e) ≡ false → (a ≡ false) × (b ≡ false) × (d ≡ false) × (e ≡ false)
-    four true b d e h = absurd (true≢false h)
-    four false true d e h = absurd (true≢false h)
-    four false false true e h = absurd (true≢false h)
-    four false false false e h = (refl, refl, refl, h)
 
 link_of : (nodes : List Node) (link : Link) → IsOpen (names_of nodes) link → IsSome (ps_per_bit_of link.mbps)
     → is_self_link link ≡ false → link.propagation_ns ≤ MAX_PROPAGATION_NS → IsLink nodes link
@@ -177,10 +184,15 @@ rate_of mbps h = by (ps_per_bit_of mbps) refl h
     by (Some v) e g = value_of IsPsPerBit (λ rate. rate == mbps) link_rates v tabled e
 
 station_is : IsNode no_node
-station_is = record { ordered = omega arith; processing = omega arith; residence = omega arith }
+station_is = record {
+  ordered = omega arith;
+  processing = omega arith;
+  residence = omega arith;
+  clock = record { deviation = omega arith; step = omega arith };
+}
 
 -- so does the node with any number, where one past the end is a station
-node_is : (nodes : List Node) → All IsNode nodes → (n : ℕ) → IsNode (node_at nodes n)
+pub node_is : (nodes : List Node) → All IsNode nodes → (n : ℕ) → IsNode (node_at nodes n)
 node_is nodes each n = ⊎_elim (each n no_node)
     (λ h. subst IsNode (sym (get_or_past nodes n no_node h)) station_is) (cases_lt n (length nodes))
 

@@ -3,7 +3,9 @@ use Rattle.std.specs.Prelude.{take, slice_index_or, count_by, Option, Some, None
 use Rattle.std.specs.List.{list_any, position_from}
 use Rattle.std.specs.Option.{option_map, option_or}
 use Rattle.ats_num.specs.Places.{place_of}
-use Rattle.ats_topology.specs.Node.{is_station, least_processing_of, greatest_processing_of, residence_of, names_of}
+use Rattle.ats_clock.specs.declared.clock.TheConstants.{MAX_DEVIATION_PPM, MAX_STEP_PS}
+use Rattle.ats_topology.specs.Node.{is_station, least_processing_of, greatest_processing_of, residence_of, clock_of}
+use Rattle.ats_topology.specs.Node.{names_of}
 use Rattle.ats_topology.specs.Link.{joins, ends_at, is_self_link}
 use Rattle.ats_topology.specs.Rates.{ps_per_bit_of}
 use Rattle.ats_topology.specs.declared.node.Kind.{Kind}
@@ -45,10 +47,11 @@ is_badly_linked links node = is_station node.kind && not (count_by (ends_at node
 abbrev pub has_bad_rate : Link → Bool
 has_bad_rate link = is_none (ps_per_bit_of link.mbps)
 
--- a greatest processing or a residence is over its limit
+-- a greatest processing or a residence is over its limit, or the deviation or the step of a clock
 abbrev pub is_kind_over : Kind → Bool
 is_kind_over kind =
     nat_lt MAX_PROCESSING_NS (greatest_processing_of kind) || nat_lt MAX_RESIDENCE_NS (residence_of kind)
+    || nat_lt MAX_DEVIATION_PPM (clock_of kind).deviation_ppm || nat_lt MAX_STEP_PS (clock_of kind).step_ps
 
 -- so is one of this node's
 abbrev pub is_node_over : Node → Bool

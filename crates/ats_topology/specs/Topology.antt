@@ -4,8 +4,9 @@ use Rattle.std.specs.List.{flat_map}
 use Rattle.ats_num.specs.Name.{name_of}
 use Rattle.ats_num.specs.Places.{place_of}
 use Rattle.ats_num.specs.declared.pace.TheConstants.{MAX_SPREAD}
+use Rattle.ats_clock.specs.Clock.{IsClock, ideal}
 use Rattle.ats_topology.specs.Node.{names_of, is_station, least_processing_of, greatest_processing_of, residence_of}
-use Rattle.ats_topology.specs.Node.{AreApart}
+use Rattle.ats_topology.specs.Node.{AreApart, clock_of}
 use Rattle.ats_topology.specs.Port.{port_at, leaves, leads_to, spread_of, IsBetween, ArePaired}
 use Rattle.ats_topology.specs.Rates.{ps_per_bit_of, IsPsPerBit}
 use Rattle.ats_topology.specs.Faults.{no_link}
@@ -78,16 +79,25 @@ station_named topology word =
 abbrev pub topology_of : List Node → List Link → DeclaredTopology
 topology_of nodes links = record { nodes = nodes; links = links; ports = ports_of nodes links }
 
+-- each of these nodes goes by the ideal clock
+abbrev pub AreIdeal : List Node → Type 0
+AreIdeal nodes = All (λ (node : Node). clock_of node.kind ≡ ideal) nodes
+
+-- so does each node of a topology
+abbrev pub HasIdealClocks : DeclaredTopology → Type 0
+HasIdealClocks topology = AreIdeal topology.nodes
+
 -- the link with a number, counted from 0
 abbrev pub link_at : List Link → ℕ → Link
 link_at links i = slice_index_or links i no_link
 
--- what each node of a topology keeps: its times are within their limits, and its least processing is at most its
--- greatest
+-- what each node of a topology keeps: its times and its clock are within their limits, and its least processing is at
+-- most its greatest
 pub record IsNode (node : Node) : Type 0 where
   pub ordered : least_processing_of node.kind ≤ greatest_processing_of node.kind
   pub processing : greatest_processing_of node.kind ≤ MAX_PROCESSING_NS
   pub residence : residence_of node.kind ≤ MAX_RESIDENCE_NS
+  pub clock : IsClock (clock_of node.kind)
 
 -- what each link keeps: its ends are different names of nodes, a link may have its rate, and its time is within its
 -- limit

@@ -15,6 +15,7 @@ use crate::link::{Link, MAX_LINKS, MAX_PROPAGATION_NS};
 use crate::node::{Kind, MAX_NODES, MAX_PROCESSING_NS, MAX_RESIDENCE_NS, Node};
 use crate::rates::ps_per_bit;
 use crate::stations::check_stations;
+use ats_clock::clock::{MAX_DEVIATION_PPM, MAX_STEP_PS};
 use ats_num::{Failure, NameTable};
 use std::alloc::Global;
 use std::collections::BTreeSet;
@@ -143,7 +144,7 @@ fn bad_rate_place(links: &[Link]) -> Option<usize>
         .position(|link| ps_per_bit(link.mbps).is_none())
 }
 
-// A number of nodes or links, or a time of one of them, that is over its limit.
+// A number of nodes or links, or a number of one of them, that is over its limit.
 fn check_limits(nodes: &[Node], links: &[Link]) -> Result<(), TopologyFault>
     ensures ok { OnOk result (limit nodes.now links.now ≡ None) }
     ensures fault { IfErr result (λ fault. limit nodes.now links.now ≡ Some fault) }
@@ -177,8 +178,15 @@ fn is_kind_over(kind: &Kind) -> bool
         Kind::Bridge {
             processing_max_ns,
             residence_ns,
+            clock_ppm,
+            clock_step_ps,
             ..
-        } => *processing_max_ns > MAX_PROCESSING_NS || *residence_ns > MAX_RESIDENCE_NS,
+        } => {
+            *processing_max_ns > MAX_PROCESSING_NS
+                || *residence_ns > MAX_RESIDENCE_NS
+                || *clock_ppm > MAX_DEVIATION_PPM
+                || *clock_step_ps > MAX_STEP_PS
+        }
     }
 }
 

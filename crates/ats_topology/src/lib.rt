@@ -2,6 +2,7 @@
 #![tactic(auto)]
 
 mod checks;
+mod clocks;
 pub mod fault;
 pub mod kept_walks;
 pub mod laws;

@@ -1,8 +1,10 @@
 //! Nodes of a network.
 
-ghost use Rattle.std.specs.Prelude.{◌≡◌};
-ghost use Rattle.ats_topology.specs.Node.{is_station, least_processing_of, greatest_processing_of};
+ghost use Rattle.std.specs.Prelude.{◌≡◌, ◌↔◌, IsTrue};
+ghost use Rattle.ats_clock.specs.Clock.{IsClock, ideal};
+ghost use Rattle.ats_topology.specs.Node.{clock_of, is_station, least_processing_of, greatest_processing_of};
 
+use ats_clock::Clock;
 use ats_num::Name;
 
 /// The most nodes of a network.
@@ -28,6 +30,11 @@ pub enum Kind {
         processing_max_ns: u32,
         /// The maximum residence time, 0 to 1,000,000,000 ns (IEEE Std 802.1Qcr, MaxResidenceTime).
         residence_ns: u32,
+        /// The greatest deviation of the rate of its schedulers' clock, 0 to 1000 parts in a million (IEEE Std
+        /// 802.1Qcr, ClockRateDeviationMax).
+        clock_ppm: u32,
+        /// The step of that clock, 0 to 10,000,000 ps: what it may gain or lose beside its rate between any two times.
+        clock_step_ps: u32,
     },
 }
 
@@ -72,6 +79,38 @@ impl Kind {
                 processing_max_ns,
                 ..
             } => *processing_max_ns,
+        }
+    }
+
+    /// The clock that its schedulers go by; a station has the ideal one.
+    pub fn clock(&self) -> Clock
+        requires { IsClock (clock_of self.now) }
+        ensures { result ≡ clock_of self.now }
+    {
+        match self {
+            Kind::Station => Clock::ideal(),
+            Kind::Bridge {
+                clock_ppm,
+                clock_step_ps,
+                ..
+            } => match Clock::new(u64::from(*clock_ppm), u64::from(*clock_step_ps)) {
+                Some(clock) => clock,
+                None => Clock::ideal(),
+            },
+        }
+    }
+
+    /// Whether this clock is the ideal one.
+    pub fn has_ideal_clock(&self) -> bool
+        ensures { IsTrue result ↔ clock_of self.now ≡ ideal }
+    {
+        match self {
+            Kind::Station => true,
+            Kind::Bridge {
+                clock_ppm,
+                clock_step_ps,
+                ..
+            } => *clock_ppm == 0 && *clock_step_ps == 0,
         }
     }
 }

@@ -1,16 +1,18 @@
 //! The nodes, links and ports of a network.
 
-ghost use Rattle.std.specs.Prelude.{◌≡◌, ◌<◌, None, IfOk, IfErr, IfSome, IfNone, OnOk, length};
+ghost use Rattle.std.specs.Prelude.{◌≡◌, ◌<◌, ◌↔◌, IsTrue, None, IfOk, IfErr, IfSome, IfNone, OnOk, length};
 ghost use Rattle.ats_num.specs.Failure.{IsDue};
 ghost use Rattle.ats_num.specs.Places.{place_of};
-ghost use Rattle.ats_topology.specs.Node.{names_of};
+ghost use Rattle.ats_topology.specs.Node.{clock_of, names_of};
 ghost use Rattle.ats_topology.specs.Port.{port_between, GoesBetween};
 ghost use Rattle.ats_topology.specs.Faults.{topology_fault};
-ghost use Rattle.ats_topology.specs.Topology.{topology_of, station_named, IsTopology, HasLawfulPorts, IsStationAt};
+ghost use Rattle.ats_topology.specs.Topology.{HasIdealClocks, HasLawfulPorts, IsStationAt, IsTopology};
+ghost use Rattle.ats_topology.specs.Topology.{node_at, station_named, topology_of};
 ghost use Rattle.ats_topology.specs.Walks.{IsLeastWalk, NoWalk, ArePorts};
 ghost use Rattle.ats_topology.specs.KeptWalks.{AreDistancesTo};
 
 use crate::checks::check;
+use crate::clocks::have_ideal_clocks;
 use crate::fault::TopologyFault;
 use crate::link::Link;
 use crate::node::Node;
@@ -18,6 +20,7 @@ use crate::numbering::ports_of;
 use crate::port::Port;
 use crate::port_table::PortTable;
 use crate::walks::{distances, least_walk, least_walk_by};
+use ats_clock::Clock;
 use ats_num::{Failure, Name, NameTable};
 use std::alloc::{AllocError, Global};
 use std::marker::Model;
@@ -30,6 +33,7 @@ pub struct Topology {
     link_list: Vec<Link>,
     names: NameTable,
     table: PortTable,
+    ideal: bool,
 }
 
 impl Model for Topology {
@@ -40,7 +44,7 @@ impl Model for Topology {
 
     ghost view = { λ t. record { nodes = t.node_list.items; links = t.link_list.items; ports = t.table.ports } };
 
-    ghost invariant = { λ t. AreKept t.node_list.items t.link_list.items t.names t.table };
+    ghost invariant = { λ t. AreKept t.node_list.items t.link_list.items t.names t.table t.ideal };
 }
 
 impl Topology {
@@ -63,11 +67,13 @@ impl Topology {
     {
         let names = check(alloc, &nodes, &links)?;
         let table = ports_of(alloc, &names, &nodes, &links)?;
+        let ideal = have_ideal_clocks(&nodes);
         Ok(Topology {
             node_list: nodes,
             link_list: links,
             names,
             table,
+            ideal,
         })
     }
 
@@ -96,6 +102,26 @@ impl Topology {
         ensures kept { HasLawfulPorts self.now }
     {
         self.table.ports()
+    }
+
+    /// Whether each node goes by the ideal clock.
+    pub fn has_ideal_clocks(&self) -> bool
+        ensures { IsTrue result ↔ HasIdealClocks self.now }
+    {
+        self.ideal
+    }
+
+    /// The clock by which the schedulers of a node go; a station, and a number past the last node, have the ideal one.
+    pub fn clock(&self, node: u32) -> Clock
+        ensures value { result ≡ clock_of (node_at self.now.nodes node).kind }
+        ensures rules { IsTopology self.now }
+    {
+        let nodes = self.nodes();
+        if (node as usize) < nodes.len() {
+            nodes[node as usize].kind.clock()
+        } else {
+            Clock::ideal()
+        }
     }
 
     /// The number of the node with this name; `None` exactly where no node has it.

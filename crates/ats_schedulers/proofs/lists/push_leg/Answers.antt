@@ -37,9 +37,9 @@ loop-hop-preserved c =
     (some_port c.args.stream.now rules) c.requires.leg in
     let long : length c.leg.result.now ≡ length path = ap (λ (l : List ℕ). length l) c.leg.ensures.value in
     let below : c.loop-hop.hop < length path = omega (arith, long, c.loop-hop-test.true) in
-    port_more (stream_sender c.args.stream.now) path c.loop-hop.hop c.args.members.now.items
+    port_more c.args.topology.now (stream_sender c.args.stream.now) path c.loop-hop.hop c.args.members.now.items
     c.loop-hop.members.items _ c.member.result below c.loop-hop.invariant c.in_ok-push.ensures.items
     (c.member.ensures
-    ∙ ap (λ (n : ℕ). member_behind (stream_sender c.args.stream.now)
+    ∙ ap (λ (n : ℕ). member_behind c.args.topology.now (stream_sender c.args.stream.now)
     (get_or c.args.stream.now.ports (n + c.loop-hop.hop) 0)) c.first_place-first.ensures
-    ∙ ap (member_behind (stream_sender c.args.stream.now)) (leg.port c.loop-hop.hop below))
+    ∙ ap (member_behind c.args.topology.now (stream_sender c.args.stream.now)) (leg.port c.loop-hop.hop below))

@@ -8,5 +8,5 @@ use Rattle.ats_schedulers.proofs.lists.push_leg.Given as goal
 abbrev pub invariant-loop-hop : goal.invariant-loop-hop
 invariant-loop-hop l = l.members.items
     ≡ l.initial.members.items
-    ++ map (member_behind (stream_sender l.stream))
+    ++ map (member_behind l.topology (stream_sender l.stream))
     (take l.hop (leg_at (legs_of l.stream.ports l.stream.branches) l.leg))

@@ -9,4 +9,5 @@ use Rattle.ats_schedulers.proofs.lists.push_stream.Given as goal
 abbrev pub invariant-loop-leg : goal.invariant-loop-leg
 invariant-loop-leg l = l.members.items
     ≡ l.initial.members.items
-    ++ flat_map (leg_members (stream_sender l.stream)) (take l.leg (legs_of l.stream.ports l.stream.branches))
+    ++ flat_map (leg_members l.topology (stream_sender l.stream))
+    (take l.leg (legs_of l.stream.ports l.stream.branches))

@@ -1,8 +1,12 @@
-use Rattle.std.proofs.Common.{◌≡◌, ℕ, List, get_or, length, ap, ◌∙◌, arith}
+use Rattle.std.proofs.Common.{◌≡◌, ℕ, List, get_or, length, ap, ◌∙◌, arith, subst, sym}
 use Rattle.ats_topology.specs.Port.{port_at}
 use Rattle.ats_topology.specs.Topology.{DeclaredTopology}
 use Rattle.ats_topology.specs.declared.port.Port.{Port}
+use Rattle.ats_network.specs.Network.{IsNetwork}
+use Rattle.ats_network.specs.Rates.{IsRated}
 use Rattle.ats_network.specs.Sender.{Sender}
+use Rattle.ats_network.specs.Senders.{sender_at}
+use Rattle.ats_settings.proofs.Behind.{rated_at}
 use Rattle.ats_settings.specs.Settings.{port_at_place}
 use Rattle.ats_settings.proofs.BeforeLemmas.{port_below}
 use Rattle.ats_settings.proofs.Places.{setting_made}
@@ -25,6 +29,15 @@ scheduler-requires-clause-port c = omega (
       c.requires.sender c.requires.before,
   ap (λ (l : List ℕ). get_or l c.args.before 0) c.sender_ports-ports.ensures.value,
 )
+
+pub scheduler-requires-clause-rated : goal.scheduler-requires-clause-rated
+scheduler-requires-clause-rated c = λ stream. (
+    let rules : IsNetwork c.args.network.now = c.sender_ports-ports.ensures.rules in
+    let same : get_or c.sender_ports-ports.result.now c.args.before 0
+    ≡ port_at_place c.args.network.now c.args.sender c.args.before =
+    ap (λ (l : List ℕ). get_or l c.args.before 0) c.sender_ports-ports.ensures.value in
+    subst (IsRated c.args.network.now.topology (sender_at c.args.network.now c.args.sender)) (sym same)
+    (rated_at c.args.network.now c.args.sender c.args.before rules stream c.requires.before))
 
 pub returns : goal.returns
 returns c =

@@ -3,9 +3,9 @@ use Rattle.ats_num.specs.Places.{place_of}
 use Rattle.ats_streams.specs.Stream.{IsStream}
 use Rattle.ats_network.specs.Path.{IsTree}
 use Rattle.ats_network.specs.Network.{DeclaredNetwork, HasShortRoutes, network_within, names_of, senders_of}
-use Rattle.ats_network.specs.Pushes.{is_full, is_identity_taken}
+use Rattle.ats_network.specs.Pushes.{is_beyond, is_identity_taken}
 use Rattle.ats_network.proofs.NameLemmas.{none_first}
-use Rattle.ats_network.proofs.Pushed.{not_full, pushed_stream, not_found}
+use Rattle.ats_network.proofs.Pushed.{fits_beside, pushed_stream, not_found}
 use Rattle.ats_network.proofs.network.Network.push_stream.Goals as goal
 
 pub push-requires-clause-absent : goal.push-requires-clause-absent
@@ -19,19 +19,19 @@ pub push-requires-clause-room : goal.push-requires-clause-room
 push-requires-clause-room c =
     let inside : DeclaredNetwork =
     network_within c.self.inside.shape c.self.inside.most_ports c.self.inside.stream_table c.self.inside.flow_table in
-    let room : is_full inside.streams c.args.stream.ports ≡ false =
-    ap (λ (n : DeclaredNetwork). is_full n.streams c.args.stream.ports) c.self.view_is
-    ∙ sym (c.is_full.ensures ∙ ap (is_full c.args.self.now.streams) c.ports.ensures.value) ∙ c.if-is_full.false in
-    (not_full inside.streams c.args.stream.ports room).few_streams
+    let room : is_beyond inside c.args.stream ≡ false =
+    ap (λ (n : DeclaredNetwork). is_beyond n c.args.stream) c.self.view_is
+    ∙ sym c.is_beyond.ensures ∙ c.if-is_beyond.false in
+    (fits_beside inside c.args.stream room).few_streams
 
 pub push-requires-clause-ports : goal.push-requires-clause-ports
 push-requires-clause-ports c =
     let inside : DeclaredNetwork =
     network_within c.self.inside.shape c.self.inside.most_ports c.self.inside.stream_table c.self.inside.flow_table in
-    let room : is_full inside.streams c.args.stream.ports ≡ false =
-    ap (λ (n : DeclaredNetwork). is_full n.streams c.args.stream.ports) c.self.view_is
-    ∙ sym (c.is_full.ensures ∙ ap (is_full c.args.self.now.streams) c.ports.ensures.value) ∙ c.if-is_full.false in
-    (not_full inside.streams c.args.stream.ports room).few_ports
+    let room : is_beyond inside c.args.stream ≡ false =
+    ap (λ (n : DeclaredNetwork). is_beyond n c.args.stream) c.self.view_is
+    ∙ sym c.is_beyond.ensures ∙ c.if-is_beyond.false in
+    (fits_beside inside c.args.stream room).few_ports
 
 pub invariant_of-self-2 : goal.invariant_of-self-2
 invariant_of-self-2 c =
@@ -50,8 +50,8 @@ invariant_of-self-2 c =
     ap (λ (n : DeclaredNetwork). is_identity_taken n.streams c.args.stream.identity) c.self.view_is
     ∙ sym (c.is_identity_taken.ensures ∙ ap (is_identity_taken c.args.self.now.streams) c.identity.ensures.value)
     ∙ c.if-is_identity_taken.false in
-    let room : is_full inside.streams c.args.stream.ports ≡ false =
-    ap (λ (n : DeclaredNetwork). is_full n.streams c.args.stream.ports) c.self.view_is
-    ∙ sym (c.is_full.ensures ∙ ap (is_full c.args.self.now.streams) c.ports.ensures.value) ∙ c.if-is_full.false in
+    let room : is_beyond inside c.args.stream ≡ false =
+    ap (λ (n : DeclaredNetwork). is_beyond n c.args.stream) c.self.view_is
+    ∙ sym c.is_beyond.ensures ∙ c.if-is_beyond.false in
     rw c.in_ok-push.ensures.ok
     (pushed_stream inside c.args.stream c.self.invariant keeps tree short absent free room)
