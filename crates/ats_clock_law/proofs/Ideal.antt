@@ -24,7 +24,7 @@ constant_apart shows k t =
     omega arith
 
 -- so its stamps are later by what it shows at first
-stamps-later : (shows : ℕ → ℕ) (offers : List Offer) → KeepsClock ideal shows
+pub stamps-later : (shows : ℕ → ℕ) (offers : List Offer) → KeepsClock ideal shows
     → stamped_offers shows offers ≡ map (later_offer (shows 0)) offers
 stamps-later shows [] k = refl
 stamps-later shows (offer ∷ offers) k =
@@ -36,7 +36,7 @@ stamps-later shows (offer ∷ offers) k =
     ∙ ap (λ (os : List Offer). later_offer (shows 0) offer ∷ os) (stamps-later shows offers k)
 
 -- no verdict tells a time before the arrival
-abbrev TellsNoEarlier : Offer → Verdict → Type 0
+abbrev pub TellsNoEarlier : Offer → Verdict → Type 0
 TellsNoEarlier offer (Eligible e) = offer.arrival ≤ e.0
 TellsNoEarlier offer (Late e) = offer.arrival ≤ e.0
 TellsNoEarlier offer Size = Unit {0}
@@ -60,6 +60,12 @@ told_after declared residence_ns state (offer ∷ offers) = (
       state.time offer.arrival (bits_of offer.octets)) (omega arith),
   told_after declared residence_ns (full_next declared residence_ns state offer) offers,
 )
+
+pub tells_no_earlier : (declared : ℕ → Declared) (residence_ns : ℕ) (offers : List Offer)
+    → AllZip TellsNoEarlier offers (ats_judge declared residence_ns offers)
+tells_no_earlier declared residence_ns offers =
+    let full = (full_fold declared residence_ns offers).verdicts in
+    rw full (told_after declared residence_ns full_first offers)
 
 only_eligible : (shows : ℕ → ℕ) (arrival told eligible : ℕ) → KeepsClock ideal shows → arrival ≤ told
     → IsTrueEligibility shows arrival (told + shows 0) eligible → eligible ≡ told
@@ -94,9 +100,7 @@ only_verdicts shows (o ∷ os) (v ∷ vs) (w ∷ ws) k h t =
 
 pub verdicts_true : IdealVerdictsAreTrue
 verdicts_true shows declared residence_ns offers verdicts k r t =
-    let full = (full_fold declared residence_ns offers).verdicts in
-    let told : AllZip TellsNoEarlier offers (ats_judge declared residence_ns offers) =
-    rw full (told_after declared residence_ns full_first offers) in
+    let told = tells_no_earlier declared residence_ns offers in
     let same : ats_judge declared residence_ns (stamped_offers shows offers)
     ≡ map (later_verdict (shows 0)) (ats_judge declared residence_ns offers) =
     ap (ats_judge declared residence_ns) (stamps-later shows offers k)

@@ -1,2 +1,3 @@
+pub mod Frames
 pub mod Over
 pub mod Places

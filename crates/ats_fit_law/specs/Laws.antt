@@ -1,4 +1,5 @@
-use Rattle.std.specs.Prelude.{◌≡◌, ◌↔◌, ℕ, ◌<◌, true, List, length, slice_index_or, All, AllPairs, Contains}
+use Rattle.std.specs.Prelude.{◌≡◌, ◌↔◌, ℕ, ◌<◌, ◌==◌, true, List, length, count_by, slice_index_or, All}
+use Rattle.std.specs.Prelude.{AllPairs, Contains}
 use Rattle.ats_bucket.specs.Conforming.{Conforms}
 use Rattle.ats_network.specs.Network.{DeclaredNetwork, senders_of}
 use Rattle.ats_network.specs.Senders.{sender_at}
@@ -33,3 +34,9 @@ abbrev pub OverCounts : Type 0
 OverCounts = (network : DeclaredNetwork) (releases : List Release) (measured : List Measured)
     → AreMeasured network releases measured
     → (numbers : List ℕ) × AreNotKept network releases numbers × (length numbers ≡ senders_over network measured)
+
+-- the frames of a sender are all its releases, of declared sizes or not
+abbrev pub FramesAreReleases : Type 0
+FramesAreReleases = (network : DeclaredNetwork) (releases : List Release) (measured : List Measured) (i : ℕ)
+    (d : Measured) → AreMeasured network releases measured → i < length (senders_of network)
+    → (slice_index_or measured i d).frames ≡ count_by (λ (r : Release). r.sender == i) releases

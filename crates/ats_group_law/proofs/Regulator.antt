@@ -1,6 +1,7 @@
-use Rattle.std.proofs.Common.{◌≡◌, ℕ, Bool, true, false, List, [], ◌∷◌, refl, arith}
+use Rattle.std.proofs.Common.{◌≡◌, ℕ, Bool, true, false, List, [], ◌∷◌, refl, mul-le-mul_right, arith}
 use Rattle.std.specs.Prelude.{◌≤◌, nat_le, if◌then◌else◌}
 use Rattle.std.specs.List.{AllZip}
+use Rattle.ats_bucket.specs.Conforming.{Frame, Conforms, time_between}
 use Rattle.ats_streams.specs.declared.traffic.Declared.{Declared}
 use Rattle.ats_group.specs.declared.verdict.Verdict.{Verdict}
 use Rattle.ats_group.specs.declared.verdict.Verdict.TheVariants.{Eligible, Late, Size}
@@ -54,6 +55,16 @@ arrived_from declared residence_ns state (offer ∷ offers) = (
   arrived_from declared residence_ns (next declared residence_ns state offer) offers,
 )
 
+-- frames that conform to a rate and a burst conform to greater ones
+pub conforms_wider : (rate burst more longer : ℕ) (frames : List Frame) → rate ≤ more → burst ≤ longer
+    → Conforms rate burst frames → Conforms more longer frames
+conforms_wider rate burst more longer frames r b c = record {
+  in_order = c.in_order;
+  within = λ i j h k. (
+      let within = c.within i j h k in
+      omega (arith, mul-le-mul_right (time_between frames i j) r));
+}
+
 bucket_is_rule : IsRule bucket_rule
 bucket_is_rule = record {
   fewer = λ d frames others conforms ascends no_more.
@@ -64,6 +75,8 @@ bucket_is_rule = record {
             omega (arith, bits_within-sum frames from to, bits_within-sum others from to, no_more (bits_in from to)))
             (windows_from_places d.rate d.burst_bits others conforms).windows;
       });
+  wider = λ d e frames less conforms. conforms_wider d.rate d.burst_bits e.rate e.burst_bits frames less.rate less.burst
+      conforms;
   conforms = λ d frames ruled sized conforms. conforms;
 }
 

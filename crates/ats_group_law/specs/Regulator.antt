@@ -1,4 +1,4 @@
-use Rattle.std.specs.Prelude.{ℕ, ◌+◌, ◌*◌, ◌≤◌, List, IsTrue, All, sum_by}
+use Rattle.std.specs.Prelude.{◌≡◌, ℕ, ◌+◌, ◌*◌, ◌≤◌, List, IsTrue, All, sum_by}
 use Rattle.std.specs.List.Sorted.{IsNonDecreasing, IsNonDecreasingBy}
 use Rattle.ats_num.specs.declared.time.TheConstants.{PS_PER_NS}
 use Rattle.ats_num.specs.Wire.{bits_of}
@@ -29,11 +29,19 @@ passed_by judge declared residence_ns offers member = accepted_of member offers 
 abbrev pub AreNoMore : List Frame → List Frame → Type 0
 AreNoMore frames others = (weight : Frame → ℕ) → sum_by weight frames ≤ sum_by weight others
 
--- a rule that talkers may be asked to keep: it stays where frames are left out, or put in another order of their times;
--- and frames of declared sizes that keep it conform to the declared rate and burst
+-- the second declares the same sizes, and neither a lower rate nor a smaller burst
+pub record IsNoLess (d e : Declared) : Type 0 where
+  pub rate : d.rate ≤ e.rate
+  pub burst : d.burst_bits ≤ e.burst_bits
+  pub least : d.min_octets ≡ e.min_octets
+  pub most : d.max_octets ≡ e.max_octets
+
+-- a rule that talkers may be asked to keep: it stays where frames are left out, or put in another order of their times,
+-- or where more is declared; and frames of declared sizes that keep it conform to the declared rate and burst
 pub record IsRule (rule : Declared → List Frame → Type 0) : Type 0 where
   pub fewer : (d : Declared) (frames others : List Frame) → rule d others → IsNonDecreasing (times_of frames)
       → AreNoMore frames others → rule d frames
+  pub wider : (d e : Declared) (frames : List Frame) → IsNoLess d e → rule d frames → rule e frames
   pub conforms : (d : Declared) (frames : List Frame) → IsRuled d
       → All (λ (f : Frame). f.bits ≤ bits_of d.max_octets) frames → rule d frames → Conforms d.rate d.burst_bits frames
 

@@ -13,7 +13,7 @@ use Rattle.ats_trace.specs.Journey.{Travel, IsJourney}
 use Rattle.ats_trace.specs.Projections.{Hop, Crossing, Handed, hops_from, crossings_from, handed_from, sent_by}
 use Rattle.ats_trace.specs.Projections.{crossings_by, handed_by}
 use Rattle.ats_trace.specs.Links.{ArrivesWithin, KeepsLinkRule, KeepsTimes}
-use Rattle.ats_trace.specs.Eligibility.{IsJudged, IsPassed, residence_of_groups}
+use Rattle.ats_trace.specs.Eligibility.{IsJudged, IsPassed}
 use Rattle.ats_trace.specs.Run.{releases_of}
 use Rattle.ats_trace.specs.declared.journey.Release.{Release}
 use Rattle.ats_examples.specs.Networks.{line_and_flow}
@@ -141,7 +141,7 @@ station_row = record {
   waits = λ i. omega arith;
   takes = λ i. omega arith;
   apart = λ i j before. omega arith;
-  chosen = λ i j before eligible. record { class = omega arith; eligible = λ same. omega arith };
+  chosen = λ i j before eligible. record { class = omega arith; no_later = λ same. omega arith };
   first = λ j before. omega arith;
   prompt = λ i j differs before. absurd (differs (omega arith));
 }
@@ -204,8 +204,8 @@ links_keep n (suc (suc (suc zero))) within =
     subst (KeepsTimes 1500000 1500000) (sym (crossed_3 0 n)) (no_times 1500000 1500000)
 links_keep n (suc (suc (suc (suc port)))) within = absurd (omega arith)
 
-none_judged : (residence_ns : ℕ) → IsJudged ats_judge line_and_flow residence_ns []
-none_judged residence_ns = record {
+none_judged : (port : ℕ) → IsJudged ats_judge line_and_flow port []
+none_judged port = record {
   arrivals = [];
   same = IsPermutation-refl [];
   in_order = λ i j d before inside. absurd (omega arith);
@@ -251,8 +251,7 @@ crowds_are_legal = record {
     ports = ports_keep n;
     links = links_keep n;
     groups = λ port class within least.
-        subst (IsJudged ats_judge line_and_flow (residence_of_groups line_and_flow port))
-        (sym (no_class port class n least)) (none_judged (residence_of_groups line_and_flow port));
+        subst (IsJudged ats_judge line_and_flow port) (sym (no_class port class n least)) (none_judged port);
     flows = λ port within. all_passed port n;
   };
   long = λ n. ap (λ (l : List Travel). length l) (crowd_is_row 0 n) ∙ length-row in_crowd 0 n;

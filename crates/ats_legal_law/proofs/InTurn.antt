@@ -18,16 +18,18 @@ use Rattle.ats_group.specs.declared.verdict.Verdict.TheVariants.{Eligible, Size}
 use Rattle.ats_port_rule.specs.PortRule.{KeepsPortRule}
 use Rattle.ats_port_law.proofs.Senders.{is_stream}
 use Rattle.ats_network.specs.Senders.{sender_at}
+use Rattle.ats_network.proofs.RateLemmas.{scheduled_ruled}
+use Rattle.ats_network.proofs.SenderLemmas.{sender_keeps}
 use Rattle.ats_trace.specs.Journey.{Travel, IsJourney, class_at}
 use Rattle.ats_trace.specs.Projections.{Handed, sent_by, crossings_by, handed_by, handed_from}
 use Rattle.ats_trace.specs.Links.{KeepsLinkRule}
-use Rattle.ats_trace.specs.Eligibility.{declared_by, offer_of, IsJudged, IsPassed, residence_of_groups}
-use Rattle.ats_trace.specs.Run.{IsLegal, releases_of}
+use Rattle.ats_trace.specs.Eligibility.{IsJudged, IsPassed, declared_by, offer_of, residence_of_groups}
+use Rattle.ats_trace.specs.Eligibility.{scheduled_by}
+use Rattle.ats_trace.specs.Run.{IsIdeal, releases_of}
 use Rattle.ats_trace.specs.declared.journey.Release.{Release}
-use Rattle.ats_soundness_law.proofs.Known.{IsTold, told, ats_case}
-use Rattle.ats_soundness_law.proofs.Streams.{sender_ruled}
+use Rattle.ats_soundness_law.proofs.Known.{Case, IsTold, told}
 use Rattle.ats_legal_law.specs.Later.{later_verdict, later_release, later_travel, later_run}
-use Rattle.ats_legal_law.specs.Rest.{IsOverBy, RestsUntil}
+use Rattle.ats_legal_law.specs.Rest.{IsOverBy, IsScheduledBehind, RestsUntil}
 use Rattle.ats_legal_law.specs.InTurn.{LegalInTurn}
 use Rattle.ats_legal_law.proofs.ListFacts.{ascends_behind}
 use Rattle.ats_legal_law.proofs.LaterFold.{later_offer}
@@ -64,41 +66,57 @@ order_in_turn over by first second after one two all =
     (released_by over first all))
 
 -- what a group's frames are, and when they rest
-given_ruled : (network : DeclaredNetwork) (run : List Travel) (port class : ℕ) → IsNetwork network
-    → IsLegal network run → 1 ≤ class
-    → All (λ (h : Handed). IsRuled (declared_by network h.crossing.sent.sender)
-    × (h.crossing.sent.sender < length network.streams)) (handed_by network run port class)
-given_ruled network run port class net legal least k d within =
+
+-- a run by true time, in which each frame was told its eligibility time
+case_in : (network : DeclaredNetwork) (run : List Travel) → IsNetwork network → IsIdeal network run
+    → Case network run
+case_in network run net legal = record {
+  net = net;
+  journeys = legal.journeys;
+  told = λ port x. x.eligible;
+  ports = legal.ports;
+  links = legal.links;
+}
+
+-- a frame is of a stream that has its scheduler behind a port, with what a group asks of its members
+record IsShaped (network : DeclaredNetwork) (port : ℕ) (h : Handed) : Type 0 where
+  ruled : IsRuled (scheduled_by network port h.crossing.sent.sender)
+  there : IsScheduledBehind network h.crossing.sent.sender port
+
+given_shaped : (network : DeclaredNetwork) (run : List Travel) (port class : ℕ) → IsNetwork network
+    → IsIdeal network run → 1 ≤ class → All (IsShaped network port) (handed_by network run port class)
+given_shaped network run port class net legal least k d within =
     let test = λ (h : Handed). h.crossing.port == port && h.crossing.sent.class == class in
     let handed : List Handed = handed_from network 0 run in
     let one : Handed = get_or (filter test handed) k d in
     let known : IsTold network one =
-    All-filter test (IsTold network) handed (told network run (ats_case network run net legal)) k d within in
+    All-filter test (IsTold network) handed (told network run (case_in network run net legal)) k d within in
     let passes = and_parts (one.crossing.port == port) (one.crossing.sent.class == class)
     (filter_passes test handed k d within) in
     let same : one.crossing.sent.class ≡ class = eqb-true one.crossing.sent.class class passes.1 in
     let shaped : 1 ≤ class_at (sender_at network one.crossing.sent.sender) one.crossing.port =
-    omega (arith, same, known.ranked, least) in (
-      sender_ruled network net one.crossing.port one.crossing.sent.sender known.exists shaped,
-      is_stream network one.crossing.port one.crossing.sent.sender known.exists shaped,
-    )
+    omega (arith, same, known.ranked, least) in
+    subst (λ (p : ℕ). IsShaped network p one) (eqb-true one.crossing.port port passes.0) (record {
+      ruled = scheduled_ruled network.topology (sender_at network one.crossing.sent.sender) one.crossing.port
+          (sender_keeps network one.crossing.sent.sender net known.exists) shaped;
+      there = record {
+        exists = is_stream network one.crossing.port one.crossing.sent.sender known.exists shaped;
+        class = shaped;
+        bridge = known.bridge;
+      };
+    })
 
-group_in_turn : (network : DeclaredNetwork) (residence_ns more over by : ℕ) (first second : List Handed)
-    → RestsUntil network over by
-    → All (λ (h : Handed). IsRuled (declared_by network h.crossing.sent.sender)
-    × (h.crossing.sent.sender < length network.streams)) first
-    → All (λ (h : Handed). IsRuled (declared_by network h.crossing.sent.sender)
-    × (h.crossing.sent.sender < length network.streams)) second
-    → All (IsHandedBy over) first → IsJudged ats_judge network residence_ns first
-    → IsJudged ats_judge network residence_ns second
-    → IsJudged ats_judge network residence_ns (first ++ map (later_handed more by) second)
-group_in_turn network residence_ns more over by first second rests ruled also past one two =
-    let Known : Handed → Type 0 = λ (h : Handed). IsRuled (declared_by network h.crossing.sent.sender)
-    × (h.crossing.sent.sender < length network.streams) in
+group_in_turn : (network : DeclaredNetwork) (port more over by : ℕ) (first second : List Handed)
+    → RestsUntil network over by → All (IsShaped network port) first → All (IsShaped network port) second
+    → All (IsHandedBy over) first → IsJudged ats_judge network port first → IsJudged ats_judge network port second
+    → IsJudged ats_judge network port (first ++ map (later_handed more by) second)
+group_in_turn network port more over by first second rests ruled also past one two =
+    let Known : Handed → Type 0 = IsShaped network port in
+    let residence_ns : ℕ = residence_of_groups network port in
     let moved : Handed → Handed = later_handed more by in
     let arrival = λ (h : Handed). h.crossing.arrival in
     let verdict = λ (h : Handed). h.verdict in
-    let declared = declared_by network in
+    let declared = scheduled_by network port in
     let InTime : Verdict → Type 0 = λ (v : Verdict). OnEligible v (λ e. e ≤ over) in
     let after : over ≤ by = (let less = rests.after in omega arith) in
     let known : All Known one.arrivals = All-permutation Known first one.arrivals one.same ruled in
@@ -107,9 +125,12 @@ group_in_turn network residence_ns more over by first second rests ruled also pa
     All-permutation (IsHandedBy over) first one.arrivals one.same past in
     let rested : All (IsRested declared over by) (map offer_of one.arrivals) =
     All-map (IsRested declared over by) offer_of one.arrivals
-    (λ k d h. ((known k d h).0, rests.filled (get_or one.arrivals k d).crossing.sent.sender (known k d h).1)) in
+    (λ k d h. (
+      (known k d h).ruled,
+      rests.scheduled (get_or one.arrivals k d).crossing.sent.sender port (known k d h).there,
+    )) in
     let keeps : All (λ (o : Offer). IsRuled (declared o.member)) (map offer_of two.arrivals) =
-    All-map (λ (o : Offer). IsRuled (declared o.member)) offer_of two.arrivals (λ k d h. (late k d h).0) in
+    All-map (λ (o : Offer). IsRuled (declared o.member)) offer_of two.arrivals (λ k d h. (late k d h).ruled) in
     let in_time : All InTime (ats_judge declared residence_ns (map offer_of one.arrivals)) =
     subst (All InTime) one.verdicts (All-map InTime verdict one.arrivals (λ k d h. (passed k d h).1)) in
     let judged = judged_in_turn declared residence_ns over by (map offer_of one.arrivals) (map offer_of two.arrivals)
@@ -171,12 +192,11 @@ legal_in_turn network first second over by net one two all rests =
           (crossings_by network second port) after (one.links port within) (two.links port within)
           (crossed_over network over first port all)));
       groups = λ port class within least.
-          (let residence_ns : ℕ = residence_of_groups network port in
-          subst (IsJudged ats_judge network residence_ns) (sym (given_in_turn network by first second port class))
-          (group_in_turn network residence_ns more over by (handed_by network first port class)
-          (handed_by network second port class) rests (given_ruled network first port class net one least)
-          (given_ruled network second port class net two least) (given_over network over first port class all)
-          (one.groups port class within least) (two.groups port class within least)));
+          subst (IsJudged ats_judge network port) (sym (given_in_turn network by first second port class))
+          (group_in_turn network port more over by (handed_by network first port class)
+          (handed_by network second port class) rests (given_shaped network first port class net one least)
+          (given_shaped network second port class net two least) (given_over network over first port class all)
+          (one.groups port class within least) (two.groups port class within least));
       flows = λ port within.
           subst (All (IsPassed network)) (sym (given_in_turn network by first second port 0))
           (All-append (IsPassed network) (handed_by network first port 0)

@@ -23,7 +23,7 @@ chosen_later : (more by : ℕ) (x y : Transmission) → Chosen x y
     → Chosen (later_transmission more by x) (later_transmission more by y)
 chosen_later more by x y chosen before eligible =
     let ahead : IsAhead x y = chosen (omega arith) (omega arith) in
-    record { class = ahead.class; eligible = λ same. (let le = ahead.eligible same in omega arith) }
+    record { class = ahead.class; no_later = λ same. (let le = ahead.no_later same in omega arith) }
 
 gap_later : (more by : ℕ) (sent : List Transmission) (x : Transmission)
     → StartsAfterGap (map (later_transmission more by) sent) (later_transmission more by x) → StartsAfterGap sent x

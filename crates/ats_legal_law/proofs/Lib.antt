@@ -1,4 +1,5 @@
 pub mod CrowdRuns
+pub mod IdealRest
 pub mod InTurn
 pub mod Kept
 pub mod LaterFold

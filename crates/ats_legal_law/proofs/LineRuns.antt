@@ -16,6 +16,7 @@ use Rattle.ats_examples.specs.Runs.{hop, one_frame, sunk}
 use Rattle.ats_examples.proofs.LegalProofs.{examples_legal}
 use Rattle.ats_examples.proofs.NetworkProofs.{line_is}
 use Rattle.ats_examples.proofs.TalkerProofs.{talkers_of_examples}
+use Rattle.ats_legal_law.proofs.IdealRest.{ideal_rests, line_clocks}
 use Rattle.ats_legal_law.specs.Later.{later_release, later_travel}
 use Rattle.ats_legal_law.specs.Rest.{FillsBy, IsLegBy, IsRecordBy, IsOverBy, RestsUntil}
 use Rattle.ats_legal_law.specs.Line.{gap_ps, frames_over_line, spaced_release, RunsAreOfAnyLength}
@@ -43,7 +44,7 @@ one_over =
 
 -- and the bucket full again long before the next
 line_rests : RestsUntil line 26672000 gap_ps
-line_rests = record { after = lit< tt; filled = filled }
+line_rests = ideal_rests line 26672000 gap_ps line_clocks (lit< tt) filled
   where
     filled : (i : ℕ) → i < length line.streams → FillsBy 26672000 gap_ps (declared_by line i)
     filled zero within = lit≤ tt

@@ -9,12 +9,15 @@ use Rattle.ats_streams.specs.declared.traffic.Declared.{Declared}
 use Rattle.ats_group.specs.Judge.{OnEligible}
 use Rattle.ats_group.specs.declared.verdict.Verdict.{Verdict}
 use Rattle.ats_group.specs.declared.verdict.Verdict.TheVariants.{Eligible, Late, Size}
+use Rattle.ats_network.specs.Senders.{sender_at}
+use Rattle.ats_network.proofs.RateLemmas.{scheduled_ruled}
+use Rattle.ats_network.proofs.SenderLemmas.{sender_keeps}
 use Rattle.ats_trace.specs.Journey.{Leg, Travel, legs_in}
-use Rattle.ats_trace.specs.Eligibility.{declared_by}
+use Rattle.ats_trace.specs.Eligibility.{declared_by, scheduled_by}
 use Rattle.ats_trace.specs.HopRecord.{HopRecord}
 use Rattle.ats_trace.specs.declared.journey.Ending.{Ending}
 use Rattle.ats_trace.specs.declared.journey.Ending.TheVariants.{Sink, Discard}
-use Rattle.ats_soundness_law.proofs.Streams.{stream_ruled}
+use Rattle.ats_soundness_law.proofs.Streams.{stream_exists, stream_ruled}
 use Rattle.ats_legal_law.specs.Rest.{AreTimesBy, IsRecordBy, IsEndingBy, IsLegBy, IsOverBy, FillsBy}
 use Rattle.ats_legal_law.specs.InTurn.{IsOnceOver}
 
@@ -110,5 +113,8 @@ once_over network run net = (
     after = omega arith;
     filled = λ i within. fills_at_last (run_over run) by (declared_by network i) (stream_ruled network net i within)
         (omega arith);
+    scheduled = λ i port there. fills_at_last (run_over run) by (scheduled_by network port i)
+        (scheduled_ruled network.topology (sender_at network i) port
+        (sender_keeps network i net (stream_exists network i there.exists)) there.class) (omega arith);
   },
 )

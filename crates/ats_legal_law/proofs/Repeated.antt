@@ -5,7 +5,7 @@ use Rattle.std.proofs.lemmas.List.Elements.{All-nil}
 use Rattle.std.proofs.lemmas.List.Sorted.{IsPermutation-refl}
 use Rattle.ats_network.specs.Network.{DeclaredNetwork}
 use Rattle.ats_trace.specs.Journey.{IsJourney}
-use Rattle.ats_trace.specs.Run.{IsLegal, releases_of}
+use Rattle.ats_trace.specs.Run.{IsIdeal, releases_of}
 use Rattle.ats_trace.specs.Talker.{KeepsBuckets}
 use Rattle.ats_legal_law.specs.Later.{later_run, later_travel, repeated}
 use Rattle.ats_legal_law.specs.InTurn.{LegalWhenRepeated, KeptWhenRepeated, LongWhenRepeated}
@@ -15,7 +15,7 @@ use Rattle.ats_legal_law.proofs.Kept.{kept_in_turn}
 -- A run again and again.
 
 -- a run without frames
-none_legal : (network : DeclaredNetwork) → IsLegal network []
+none_legal : (network : DeclaredNetwork) → IsIdeal network []
 none_legal network = record {
   in_order = λ i j d before within. absurd (omega arith);
   journeys = All-nil (IsJourney network);

@@ -221,10 +221,10 @@ given_from network port frame n (j ∷ run) =
     (given_from network port frame (n + 1) run)
 
 pub told_once : FramesAreToldOnce
-told_once judge network run net legal = record {
+told_once network run net journeys = record {
   crossed = λ port frame. (
       let once : count_by (λ (x : Transmission). x.frame == frame) (sent_by network run port) ≤ 1 =
-      (one_verdict judge network run net legal).sent port frame in
+      (one_verdict network run net journeys).sent port frame in
       omega (
         arith,
         once,
@@ -236,7 +236,7 @@ told_once judge network run net legal = record {
       ));
   handed = λ port class frame. (
       let once : count_by (λ (x : Transmission). x.frame == frame) (sent_by network run port) ≤ 1 =
-      (one_verdict judge network run net legal).sent port frame in
+      (one_verdict network run net journeys).sent port frame in
       omega (
         arith,
         once,

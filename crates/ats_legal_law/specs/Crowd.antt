@@ -3,7 +3,7 @@ use Rattle.ats_network.specs.Network.{IsNetwork}
 use Rattle.ats_port_rule.specs.Transmission.{Transmission}
 use Rattle.ats_trace.specs.Journey.{Travel}
 use Rattle.ats_trace.specs.Projections.{sent_by}
-use Rattle.ats_trace.specs.Run.{IsLegal, releases_of}
+use Rattle.ats_trace.specs.Run.{IsIdeal, releases_of}
 use Rattle.ats_trace.specs.declared.journey.Release.{Release}
 use Rattle.ats_examples.specs.Networks.{line_and_flow}
 use Rattle.ats_examples.specs.Runs.{hop, sunk}
@@ -31,7 +31,7 @@ crowd_from k (suc n) = in_crowd k ∷ crowd_from (k + 1) n
 -- station until those before it have been sent
 pub record CrowdsAreLegal : Type 0 where
   pub network : IsNetwork line_and_flow
-  pub legal : (n : ℕ) → IsLegal line_and_flow (crowd_from 0 n)
+  pub legal : (n : ℕ) → IsIdeal line_and_flow (crowd_from 0 n)
   pub long : (n : ℕ) → length (crowd_from 0 n) ≡ n
   pub at_once : (n : ℕ) → All (λ (r : Release). r.at.0 ≡ 0) (releases_of (crowd_from 0 n))
   pub waits : (n : ℕ)

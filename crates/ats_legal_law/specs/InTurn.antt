@@ -1,18 +1,19 @@
 use Rattle.std.specs.Prelude.{◌≡◌, ℕ, ◌*◌, ◌≤◌, List, ◌++◌, length, All}
 use Rattle.ats_network.specs.Network.{DeclaredNetwork, IsNetwork}
 use Rattle.ats_trace.specs.Journey.{Travel}
-use Rattle.ats_trace.specs.Run.{IsLegal, releases_of}
+use Rattle.ats_trace.specs.Run.{IsIdeal, releases_of}
 use Rattle.ats_trace.specs.Talker.{KeepsBuckets}
 use Rattle.ats_legal_law.specs.Later.{later_run, repeated}
 use Rattle.ats_legal_law.specs.Rest.{IsOverBy, RestsUntil}
 
--- A run behind another one.
+-- A run behind another one, where all nodes read true time. By clocks that differ two legal runs need not be one: a
+-- clock that is put together of two has up to twice the step of each.
 
 -- where one legal run is over, and the network has rested, another one may begin: together they are one legal run
 abbrev pub LegalInTurn : Type 0
 LegalInTurn = (network : DeclaredNetwork) (first second : List Travel) (over by : ℕ) → IsNetwork network
-    → IsLegal network first → IsLegal network second → All (IsOverBy over) first → RestsUntil network over by
-    → IsLegal network (first ++ later_run by second)
+    → IsIdeal network first → IsIdeal network second → All (IsOverBy over) first → RestsUntil network over by
+    → IsIdeal network (first ++ later_run by second)
 
 -- and a node that keeps its buckets in both keeps them in the whole
 abbrev pub KeptInTurn : Type 0
@@ -24,7 +25,7 @@ KeptInTurn = (network : DeclaredNetwork) (first second : List Travel) (over by s
 -- so a legal run may happen any number of times
 abbrev pub LegalWhenRepeated : Type 0
 LegalWhenRepeated = (network : DeclaredNetwork) (run : List Travel) (over by n : ℕ) → IsNetwork network
-    → IsLegal network run → All (IsOverBy over) run → RestsUntil network over by → IsLegal network (repeated by n run)
+    → IsIdeal network run → All (IsOverBy over) run → RestsUntil network over by → IsIdeal network (repeated by n run)
 
 abbrev pub KeptWhenRepeated : Type 0
 KeptWhenRepeated = (network : DeclaredNetwork) (run : List Travel) (over by n station : ℕ)

@@ -2,7 +2,7 @@ use Rattle.std.specs.Prelude.{◌≡◌, ℕ, ◌*◌, ◌<◌, List, length}
 use Rattle.ats_network.specs.Network.{IsNetwork}
 use Rattle.ats_trace.specs.Journey.{Travel}
 use Rattle.ats_trace.specs.Releases.{AreReleases}
-use Rattle.ats_trace.specs.Run.{IsLegal, releases_of}
+use Rattle.ats_trace.specs.Run.{IsIdeal, releases_of}
 use Rattle.ats_trace.specs.Stored.{travel_at}
 use Rattle.ats_trace.specs.Talker.{talker_of, KeepsBuckets}
 use Rattle.ats_trace.specs.declared.journey.Release.{Release}
@@ -29,7 +29,7 @@ spaced_release k = record { at = record { 0 = k * gap_ps }; sender = 0; octets =
 -- bucket; also for each that is more than may be run
 pub record RunsAreOfAnyLength : Type 0 where
   pub network : IsNetwork line
-  pub legal : (n : ℕ) → IsLegal line (frames_over_line n)
+  pub legal : (n : ℕ) → IsIdeal line (frames_over_line n)
   pub long : (n : ℕ) → length (frames_over_line n) ≡ n
   pub released : (n k : ℕ) → k < n → (travel_at (frames_over_line n) k).release ≡ spaced_release k
   pub kept : (n : ℕ) → KeepsBuckets line (releases_of (frames_over_line n)) (talker_of line 0)

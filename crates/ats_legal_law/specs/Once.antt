@@ -1,9 +1,7 @@
-use Rattle.std.specs.Prelude.{ℕ, ◌≤◌, ◌==◌, List, count_by}
+use Rattle.std.specs.Prelude.{ℕ, ◌≤◌, ◌==◌, List, All, count_by}
 use Rattle.ats_network.specs.Network.{DeclaredNetwork, IsNetwork}
-use Rattle.ats_group.specs.Judge.{Judge}
-use Rattle.ats_trace.specs.Journey.{Travel}
+use Rattle.ats_trace.specs.Journey.{IsJourney, Travel}
 use Rattle.ats_trace.specs.Projections.{Crossing, Handed, crossings_by, handed_by}
-use Rattle.ats_trace.specs.Run.{IsLegalBy}
 
 -- A frame is told of once at each port, however many listeners are behind it.
 
@@ -14,6 +12,7 @@ pub record IsToldOnce (network : DeclaredNetwork) (run : List Travel) : Type 0 w
   pub handed : (port class frame : ℕ)
       → count_by (λ (h : Handed). h.crossing.sent.frame == frame) (handed_by network run port class) ≤ 1
 
+-- so it is where each frame makes a journey: in each legal run, by whatever clocks, and however groups judge
 abbrev pub FramesAreToldOnce : Type 0
-FramesAreToldOnce = (judge : Judge) (network : DeclaredNetwork) (run : List Travel) → IsNetwork network
-    → IsLegalBy judge network run → IsToldOnce network run
+FramesAreToldOnce = (network : DeclaredNetwork) (run : List Travel) → IsNetwork network → All (IsJourney network) run
+    → IsToldOnce network run

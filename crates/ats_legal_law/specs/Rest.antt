@@ -2,10 +2,14 @@ use Rattle.std.specs.Prelude.{ℕ, ◌+◌, ◌*◌, ◌<◌, ◌≤◌, length,
 use Rattle.ats_num.specs.declared.time.TheConstants.{PS_PER_SECOND}
 use Rattle.ats_num.specs.declared.time.Ps.{Ps}
 use Rattle.ats_group.specs.Judge.{OnEligible}
+use Rattle.ats_topology.specs.Port.{port_at}
+use Rattle.ats_network.specs.Bridges.{IsBridgeAt}
+use Rattle.ats_network.specs.Class.{class_at}
 use Rattle.ats_network.specs.Network.{DeclaredNetwork}
+use Rattle.ats_network.specs.Senders.{sender_at}
 use Rattle.ats_streams.specs.declared.traffic.Declared.{Declared}
 use Rattle.ats_trace.specs.Journey.{Leg, Travel}
-use Rattle.ats_trace.specs.Eligibility.{declared_by}
+use Rattle.ats_trace.specs.Eligibility.{declared_by, scheduled_by}
 use Rattle.ats_trace.specs.HopRecord.{HopRecord}
 use Rattle.ats_trace.specs.declared.journey.Ending.{Ending}
 use Rattle.ats_trace.specs.declared.journey.Ending.TheVariants.{Sink, Discard}
@@ -43,7 +47,15 @@ pub record IsOverBy (over : ℕ) (j : Travel) : Type 0 where
 abbrev pub FillsBy : ℕ → ℕ → Declared → Type 0
 FillsBy over by declared = PS_PER_SECOND * declared.burst_bits + over * declared.rate ≤ by * declared.rate
 
--- a network rests from one time to another, which is later: the bucket of each stream fills
+-- a stream has the port, which leads to a bridge: there its scheduler is
+pub record IsScheduledBehind (network : DeclaredNetwork) (stream port : ℕ) : Type 0 where
+  pub exists : stream < length network.streams
+  pub class : 1 ≤ class_at (sender_at network stream) port
+  pub bridge : IsBridgeAt network.topology (port_at network.topology.ports port).to
+
+-- a network rests from one time to another, which is later: the bucket of each stream fills, and that of each of its
+-- schedulers
 pub record RestsUntil (network : DeclaredNetwork) (over by : ℕ) : Type 0 where
   pub after : over < by
   pub filled : (i : ℕ) → i < length network.streams → FillsBy over by (declared_by network i)
+  pub scheduled : (i port : ℕ) → IsScheduledBehind network i port → FillsBy over by (scheduled_by network port i)

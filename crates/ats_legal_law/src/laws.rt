@@ -6,9 +6,9 @@ ghost use Rattle.ats_legal_law.specs.InTurn.{LegalWhenRepeated, LongWhenRepeated
 ghost use Rattle.ats_legal_law.specs.Line.{RunsAreOfAnyLength};
 ghost use Rattle.ats_legal_law.specs.Once.{FramesAreToldOnce};
 
-/// A law: where a legal run is over, and the network has rested until each bucket is full again, another legal run may
-/// begin, and the two are one legal run; a node that keeps its buckets in both keeps them in the whole. Each run is
-/// over at some time.
+/// A law, of runs in which all nodes read true time: where a legal run is over, and the network has rested until each
+/// bucket is full again, another legal run may begin, and the two are one legal run; a node that keeps its buckets in
+/// both keeps them in the whole. Each run is over at some time.
 pub fn runs_go_in_turn()
     ensures legal { LegalInTurn }
     ensures kept { KeptInTurn }
@@ -34,8 +34,8 @@ pub fn crowds_are_legal()
     ensures { CrowdsAreLegal }
 {}
 
-/// In a legal run a frame crosses a port at most once, and the port hands it on at most once, however many listeners
-/// are behind it.
+/// Where each frame makes a journey, as in each legal run, a frame crosses a port at most once, and the port hands it
+/// on at most once, however many listeners are behind it.
 pub fn frames_are_told_once()
     ensures { FramesAreToldOnce }
 {}

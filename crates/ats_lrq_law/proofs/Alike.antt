@@ -4,13 +4,17 @@ use Rattle.std.specs.Prelude.{◌==◌, ◌&&◌, if◌then◌else◌}
 use Rattle.std.proofs.Math.ListN.{get_or-map}
 use Rattle.std.proofs.lemmas.List.{length-map, map-append}
 use Rattle.std.proofs.lemmas.List.Elements.{All-weaker}
+use Rattle.ats_clock.specs.Clock.{DeclaredClock}
+use Rattle.ats_clock.specs.Rates.{committed, output_behind, output_of, scheduler_for}
+use Rattle.ats_clock.specs.declared.committed.Committed.{Committed}
 use Rattle.ats_streams.specs.Branches.{legs_of, trunk_of}
 use Rattle.ats_streams.specs.Stream.{DeclaredStream}
 use Rattle.ats_streams.specs.Flow.{DeclaredFlow}
-use Rattle.ats_streams.specs.Traffic.{is_declared_size}
+use Rattle.ats_streams.specs.Traffic.{declared_as, is_declared_size}
 use Rattle.ats_streams.specs.declared.traffic.Declared.{Declared}
 use Rattle.ats_topology.specs.Port.{port_at}
 use Rattle.ats_topology.specs.Topology.{DeclaredTopology}
+use Rattle.ats_network.specs.Rates.{clock_behind, committed_at, declared_with, ports_to, scheduled_at, talker_clock}
 use Rattle.ats_network.specs.Sender.{Sender, stream_sender, flow_sender, declared_of}
 use Rattle.ats_network.specs.Network.{DeclaredNetwork, network_within, senders_of}
 use Rattle.ats_network.specs.Senders.{no_sender, sender_at}
@@ -27,6 +31,7 @@ use Rattle.ats_trace.specs.Projections.{handed_over}
 use Rattle.ats_trace.specs.Projections.{journey_hops, journey_crossings, journey_handed}
 use Rattle.ats_trace.specs.Projections.{hops_from, crossings_from, handed_from, handed_by}
 use Rattle.ats_trace.specs.Eligibility.{declared_by, offer_of, IsJudged, IsPassed, residence_of_groups}
+use Rattle.ats_trace.specs.Eligibility.{scheduled_by}
 use Rattle.ats_trace.specs.Run.{IsLegalBy}
 use Rattle.ats_trace.specs.Talker.{start_of, talker_of, frames_of, IsDeclaredSize, KeepsBucketsBy}
 use Rattle.ats_trace.specs.declared.journey.Release.{Release}
@@ -124,6 +129,25 @@ handed_over_bare frame release s (path ∷ paths) (leg ∷ legs) =
     ∙ ap (λ (xs : List Handed). handed_along frame release s path leg.hops ++ xs)
     (handed_over_bare frame release s paths legs)
 
+-- no rate at a hop reads the burst
+rate_along : (clocks : List DeclaredClock) (c d : Committed) → c.rate ≡ d.rate
+    → (output_behind clocks c).rate ≡ (output_behind clocks d).rate
+rate_along [] c d same = same
+rate_along (clock ∷ clocks) c d same =
+    rate_along clocks (output_of clock (scheduler_for clock c)) (output_of clock (scheduler_for clock d))
+    (ap (λ (rate : ℕ). (output_of clock (scheduler_for clock (committed rate 0))).rate) same)
+
+scheduled_bare : (topology : DeclaredTopology) (port : ℕ) (s : Sender)
+    → bare_declared (declared_with (scheduled_at topology port (bare s)) (bare s))
+    ≡ bare_declared (declared_with (scheduled_at topology port s) s)
+scheduled_bare topology port s =
+    let seen : (committed_at topology port (bare s)).rate ≡ (committed_at topology port s).rate =
+    rate_along (map (clock_behind topology) (ports_to s port))
+    (output_of (talker_clock topology s) (committed s.rate 0))
+    (output_of (talker_clock topology s) (committed s.rate s.burst_bits)) refl in
+    ap (λ (rate : ℕ). declared_as (scheduler_for (clock_behind topology port) (committed rate 0)).rate 0 s.min_octets
+    s.max_octets) seen
+
 -- nor does a judge read the bursts
 verdicts_alike : (d e : ℕ → Declared) → ((i : ℕ) → bare_declared (d i) ≡ bare_declared (e i)) → (residence_ns : ℕ)
     (state : State) (offers : List Offer) → verdicts_of d residence_ns state offers
@@ -176,6 +200,12 @@ module _ (topology : DeclaredTopology) (most : ℕ) (flows : List DeclaredFlow) 
 
   same_declared : (n : ℕ) → bare_declared (declared_by network n) ≡ bare_declared (declared_by other n)
   same_declared n = ap declared_of (same_at n)
+
+  same_scheduled : (port n : ℕ)
+      → bare_declared (scheduled_by network port n) ≡ bare_declared (scheduled_by other port n)
+  same_scheduled port n =
+      same_of (λ (s : Sender). bare_declared (declared_with (scheduled_at topology port s) s))
+      (scheduled_bare topology port) n
 
   same_senders : length (senders_of network) ≡ length (senders_of other)
   same_senders =
@@ -232,16 +262,16 @@ module _ (topology : DeclaredTopology) (most : ℕ) (flows : List DeclaredFlow) 
     copies = subst (λ (s : Sender). AreCopies s j) (same_at j.release.sender) i.copies;
   }
 
-  judged_alike : (residence_ns : ℕ) (handed : List Handed) → IsJudged lrq_judge network residence_ns handed
-      → IsJudged lrq_judge other residence_ns handed
-  judged_alike residence_ns handed i = record {
+  judged_alike : (port : ℕ) (handed : List Handed) → IsJudged lrq_judge network port handed
+      → IsJudged lrq_judge other port handed
+  judged_alike port handed i = record {
     arrivals = i.arrivals;
     same = i.same;
     in_order = i.in_order;
     verdicts =
         i.verdicts
-        ∙ verdicts_alike (declared_by network) (declared_by other) same_declared residence_ns first
-        (map offer_of i.arrivals);
+        ∙ verdicts_alike (scheduled_by network port) (scheduled_by other port) (same_scheduled port)
+        (residence_of_groups network port) first (map offer_of i.arrivals);
   }
 
   passed_alike : (h : Handed) → IsPassed network h → IsPassed other h
@@ -259,9 +289,8 @@ module _ (topology : DeclaredTopology) (most : ℕ) (flows : List DeclaredFlow) 
         (l.ports port h);
     links = λ port h. subst (λ (xs : List Crossing). KeepsLinkRule (port_at topology.ports port) xs)
         (ap (filter (λ (c : Crossing). c.port == port)) (same_crossings 0 run)) (l.links port h);
-    groups = λ port class h k. subst (IsJudged lrq_judge other (residence_of_groups other port))
-        (handed_alike run port class)
-        (judged_alike (residence_of_groups network port) (handed_by network run port class) (l.groups port class h k));
+    groups = λ port class h k. subst (IsJudged lrq_judge other port) (handed_alike run port class)
+        (judged_alike port (handed_by network run port class) (l.groups port class h k));
     flows = λ port h. subst (λ (xs : List Handed). All (IsPassed other) xs) (handed_alike run port 0)
         (All-weaker (IsPassed network) (IsPassed other) passed_alike (handed_by network run port 0) (l.flows port h));
   }

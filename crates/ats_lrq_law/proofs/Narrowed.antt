@@ -3,14 +3,17 @@ use Rattle.std.proofs.lemmas.List.{length-map}
 use Rattle.std.proofs.lemmas.List as lists
 use Rattle.std.proofs.lemmas.List.Elements.{All-map}
 use Rattle.std.proofs.lemmas.List.Sums.{sum_by-cons}
+use Rattle.ats_num.specs.Wire.{bits_of}
 use Rattle.ats_streams.specs.Stream.{DeclaredStream, IsStream}
 use Rattle.ats_streams.specs.declared.branch.Branch.{Branch}
 use Rattle.ats_topology.specs.Node.{AreApart}
-use Rattle.ats_topology.specs.Topology.{DeclaredTopology}
+use Rattle.ats_topology.specs.Topology.{DeclaredTopology, IsTopology}
 use Rattle.ats_network.specs.Sender.{Sender}
 use Rattle.ats_network.specs.Path.{IsTree}
 use Rattle.ats_network.specs.Network.{AreIdentified, HasShortRoutes, ports_together, senders_of}
+use Rattle.ats_network.specs.Rates.{HasRates}
 use Rattle.ats_network.specs.Senders.{sender_at}
+use Rattle.ats_network.proofs.Rated.{narrowed_rates}
 use Rattle.ats_certificate.specs.declared.row.Row.{Row}
 use Rattle.ats_trace.specs.Journey.{Travel}
 use Rattle.ats_trace.specs.Run.{releases_of}
@@ -44,6 +47,12 @@ narrowed_is_stream s i =
       deadline = i.deadline;
       identity = i.identity;
     }
+
+-- and no rate or burst of them at a hop is greater
+narrowed_has_rates : (topology : DeclaredTopology) (s : DeclaredStream) → IsTopology topology → IsStream s
+    → HasRates topology s → HasRates topology (narrowed_stream s)
+narrowed_has_rates topology s is i rates =
+    narrowed_rates topology s (bits_of s.max_octets) is i.rules.rate.positive i.rules.covers rates
 
 -- a sender's ports and branches
 abbrev legs : Sender → List ℕ × List Branch
@@ -105,6 +114,9 @@ narrowed_is_network network n =
       most_ports = n.most_ports;
       short_streams = All-map (HasShortRoutes network.most_ports) narrowed_stream network.streams n.short_streams;
       short_flows = n.short_flows;
+      rates = All-map (HasRates network.topology) narrowed_stream network.streams
+          (λ i d h. narrowed_has_rates network.topology (get_or network.streams i d) n.topology (n.streams i d h)
+          (n.rates i d h));
     }
 
 pub runs_are_kept : RunsAreKept

@@ -11,6 +11,7 @@ use Rattle.ats_lrq_law.proofs.Conforming.{spaced-conforms}
 use Rattle.ats_lrq_law.proofs.Free.{spacing-free}
 use Rattle.ats_lrq_law.proofs.Output.{output-spaced}
 use Rattle.ats_lrq_law.proofs.Rule.{spacing-fewer}
+use Rattle.ats_lrq_law.proofs.Spaced.{spaced-wider}
 use Rattle.ats_lrq_law.proofs.Verdicts.{arrived-from, sized-from}
 
 -- a burst covers the longest frame
@@ -24,6 +25,8 @@ conforms_by d frames r sized k =
 spacing_is_rule : IsRule spacing_rule
 spacing_is_rule = record {
   fewer = λ d frames others kept ascends no_more. spacing-fewer d.rate frames others kept ascends no_more;
+  wider = λ d e frames less kept.
+      record { bits = kept.bits; spaced = spaced-wider d.rate e.rate frames less.rate kept.spaced };
   conforms = conforms_by;
 }
 

@@ -1,5 +1,5 @@
 use Rattle.std.proofs.Common.{◌≡◌, ℕ, zero, suc, ◌-◌, ◌*◌, ◌<◌, ◌≤◌, List, [], ◌∷◌, All, mul-le-mul_left, ap, inl}
-use Rattle.std.proofs.Common.{inr, arith}
+use Rattle.std.proofs.Common.{mul-le-mul_right, inr, arith}
 use Rattle.std.proofs.lemmas.Bool.{cases_lt}
 use Rattle.std.specs.List.Sorted.{IsNonDecreasingBy}
 use Rattle.std.proofs.lemmas.List.Elements.{All-nil, All-cons, All-weaker}
@@ -15,6 +15,18 @@ spaced-on rate bits since at after h s =
     let given = s.given in
     let longer : at - since ≤ after - since = omega arith in
     record { later = omega arith; given = omega (arith, mul-le-mul_left rate longer) }
+
+-- and a frame that keeps it by a rate keeps it by a greater one
+spaced-by : (rate more bits since at : ℕ) → rate ≤ more → IsSpaced rate bits since at → IsSpaced more bits since at
+spaced-by rate more bits since at h s =
+    let given = s.given in
+    record { later = s.later; given = omega (arith, mul-le-mul_right (at - since) h) }
+
+pub spaced-wider : (rate more : ℕ) (frames : List Frame) → rate ≤ more → AreSpaced rate frames → AreSpaced more frames
+spaced-wider rate more [] h s = tt
+spaced-wider rate more (f ∷ []) h s = tt
+spaced-wider rate more (f ∷ g ∷ fs) h s =
+    (spaced-by rate more f.bits f.at g.at h s.0, spaced-wider rate more (g ∷ fs) h s.1)
 
 -- where the earlier frame has bits, time passes
 pub spaced-past : (rate bits since at : ℕ) → 1 ≤ bits → IsSpaced rate bits since at → since < at

@@ -7,6 +7,7 @@ use Rattle.ats_trace.specs.Run.{IsLegalBy}
 use Rattle.ats_trace.specs.Talker.{KeepsBucketsBy}
 use Rattle.ats_trace.specs.declared.journey.Release.{Release}
 use Rattle.ats_soundness_law.specs.Rules.{Rule, Keeps}
+use Rattle.ats_soundness_law.specs.Runs.{in_true_time}
 use Rattle.ats_soundness_law.specs.Sound.{IsSoundBy}
 use Rattle.ats_lrq.specs.Judge.{lrq_judge, spacing_rule}
 use Rattle.ats_lrq.specs.Narrow.{narrowed}
@@ -29,10 +30,10 @@ TalkersAreKept = (network : DeclaredNetwork) (releases : List Release) (node : �
 -- where rows keep each of the ten rules, they are sound for these regulators and spaced talkers
 abbrev pub SoundBySpacing : Type 0
 SoundBySpacing = (network : DeclaredNetwork) (rows : List Row) → IsNetwork network
-    → ((ten : Rule) → Keeps ten network rows) → IsSoundBy lrq_judge spacing_rule network rows
+    → ((ten : Rule) → Keeps ten network rows) → IsSoundBy (in_true_time lrq_judge spacing_rule) network rows
 
 -- so a certificate that holds with narrowed bursts is sound for these regulators and spaced talkers, in the runs of the
 -- network as it is declared
 abbrev pub NarrowedIsSound : Type 0
 NarrowedIsSound = (network : DeclaredNetwork) (rows : List Row) → IsNetwork network → Holds (narrowed network) rows
-    → IsSoundBy lrq_judge spacing_rule network rows
+    → IsSoundBy (in_true_time lrq_judge spacing_rule) network rows

@@ -1,3 +1,4 @@
+pub mod ByEligibility
 pub mod Law
 pub mod Numbers
 pub mod Pairs

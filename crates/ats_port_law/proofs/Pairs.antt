@@ -1,10 +1,10 @@
-use Rattle.std.proofs.Common.{◌≡◌, ℕ, suc, ◌+◌, ◌*◌, ◌<◌, ◌≤◌, List, [], ◌∷◌, length, get_or, All, subst, inl, inr}
+use Rattle.std.proofs.Common.{◌≡◌, ℕ, suc, ◌+◌, ◌*◌, ◌<◌, ◌≤◌, List, [], ◌∷◌, length, get_or, All, subst, sym, inl, inr}
 use Rattle.std.proofs.Common.{arith}
 use Rattle.std.specs.Prelude.{◌≢◌, ◌⊎◌}
 use Rattle.std.proofs.lemmas.Bool.{cases_order, cases_eq, cases_lt}
 use Rattle.std.proofs.lemmas.List.Elements.{All-cons}
 use Rattle.ats_port_rule.specs.Transmission.{Transmission}
-use Rattle.ats_port_rule.specs.PortRule.{AreApart, KeepsPortRule}
+use Rattle.ats_port_rule.specs.PortRule.{AreApart, KeepsPortRule, KeepsPortRuleBy}
 
 -- a transmission takes some time
 abbrev pub TakesTime : ℕ → List Transmission → Type 0
@@ -37,7 +37,7 @@ starts_differ ps x y tx ty lx ly (inl a) e P = absurd (omega arith)
 starts_differ ps x y tx ty lx ly (inr a) e P = absurd (omega arith)
 
 -- so of two that start together each is the other
-pub same_place : (ps : ℕ) (sent : List Transmission) → KeepsPortRule ps sent
+pub same_place : {told : Transmission → ℕ} (ps : ℕ) (sent : List Transmission) → KeepsPortRuleBy told ps sent
     → TakesTime ps sent → (i j : ℕ) (d : Transmission) → i < length sent → j < length sent
     → (get_or sent i d).start ≡ (get_or sent j d).start → i ≡ j
 same_place ps sent r long i j d hi hj e =
@@ -51,20 +51,34 @@ same_place ps sent r long i j d hi hj e =
       ]
     ]
 
--- of one class, a frame that starts no later became eligible no later
+-- of one class, a frame that starts no later was told no later time, where frames that were told earlier times were
+-- eligible no later
+pub told_no_later : {told : Transmission → ℕ} (ps : ℕ) (sent : List Transmission) → KeepsPortRuleBy told ps sent
+    → TakesTime ps sent
+    → All (λ (x : Transmission). All (λ (y : Transmission). x.class ≡ y.class → told x < told y
+    → x.eligible ≤ y.eligible) sent) sent
+    → (i j : ℕ) (d : Transmission) → i < length sent → j < length sent
+    → (get_or sent i d).class ≡ (get_or sent j d).class → (get_or sent i d).start ≤ (get_or sent j d).start
+    → told (get_or sent i d) ≤ told (get_or sent j d)
+told_no_later {told} ps sent r long kept i j d hi hj class order =
+    let y : Transmission = get_or sent i d in
+    let x : Transmission = get_or sent j d in
+    elim (cases_lt (told x) (told y)) as (λ _. told y ≤ told x) [
+      | inr no_later ↦ no_later
+      | inl earlier ↦ elim (cases_lt y.start x.start) as (λ _. told y ≤ told x) [
+        | inl before ↦ (
+            let w = r.waits i d hi in
+            let no_later = kept j d hj i d hi (sym class) earlier in
+            (r.chosen i d hi j d hj before (omega (arith, w, no_later))).no_later class)
+        | inr together ↦ (
+            let P : ℕ → Type 0 = λ (k : ℕ). told y ≤ told (get_or sent k d) in
+            subst P (same_place ps sent r long i j d hi hj (omega (arith, order, together))) (omega arith))
+      ]
+    ]
+
+-- so each was eligible no later, where it was told its eligibility time
 pub eligible_no_later : (ps : ℕ) (sent : List Transmission) → KeepsPortRule ps sent → TakesTime ps sent
     → (i j : ℕ) (d : Transmission) → i < length sent → j < length sent
     → (get_or sent i d).class ≡ (get_or sent j d).class → (get_or sent i d).start ≤ (get_or sent j d).start
     → (get_or sent i d).eligible ≤ (get_or sent j d).eligible
-eligible_no_later ps sent r long i j d hi hj class order =
-    let y : Transmission = get_or sent i d in
-    let x : Transmission = get_or sent j d in
-    elim (cases_lt y.start x.start) as (λ _. y.eligible ≤ x.eligible) [
-      | inl before ↦ elim (cases_lt y.start x.eligible) as (λ _. y.eligible ≤ x.eligible) [
-        | inl late ↦ (let w = r.waits i d hi in omega (arith, w, late))
-        | inr known ↦ (r.chosen i d hi j d hj before known).eligible class
-      ]
-      | inr together ↦ (
-          let P : ℕ → Type 0 = λ (k : ℕ). y.eligible ≤ (get_or sent k d).eligible in
-          subst P (same_place ps sent r long i j d hi hj (omega (arith, order, together))) (omega arith))
-    ]
+eligible_no_later ps sent r long = told_no_later ps sent r long (λ k d h j e g class earlier. omega (arith, earlier))

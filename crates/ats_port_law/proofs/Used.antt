@@ -6,6 +6,7 @@ use Rattle.std.specs.List.{list_any}
 use Rattle.std.proofs.lemmas.Bool.{cases_Bool, or_cases, eqb-true, false≢true}
 use Rattle.std.proofs.lemmas.List.{length-map}
 use Rattle.std.proofs.lemmas.List.Elements.{All-head, All-tail, All-from_get_or}
+use Rattle.ats_topology.specs.Topology.{DeclaredTopology}
 use Rattle.ats_topology.specs.Walks.{ArePorts}
 use Rattle.ats_topology.specs.declared.port.Port.{Port}
 use Rattle.ats_streams.specs.Stream.{DeclaredStream}
@@ -36,18 +37,19 @@ among_ports ports port (p ∷ numbers) are on =
       | inr later ↦ among_ports ports port numbers (All-tail (λ q. q < length ports) p numbers are) later
     ]
 
-used_by : (ports port class : ℕ) (streams : List DeclaredStream) → All (Allows ports port) streams
-    → list_any (is_of class) (senders_at port (map stream_sender streams)) ≡ true → IsPlace ports port class
-used_by ports port class [] all used = absurd (false≢true used)
-used_by ports port class (s ∷ ss) all used =
+used_by : (topology : DeclaredTopology) (ports port class : ℕ) (streams : List DeclaredStream)
+    → All (Allows ports port) streams
+    → list_any (is_of class) (senders_at topology port (map stream_sender streams)) ≡ true → IsPlace ports port class
+used_by topology ports port class [] all used = absurd (false≢true used)
+used_by topology ports port class (s ∷ ss) all used =
     let first : Allows ports port s = All-head (Allows ports port) s ss all in
     let kept : List Sender = filter (uses port) (map stream_sender ss) in
-    let rest : List PortSender = senders_at port (map stream_sender ss) in
-    let later = used_by ports port class ss (All-tail (Allows ports port) s ss all) in
+    let rest : List PortSender = senders_at topology port (map stream_sender ss) in
+    let later = used_by topology ports port class ss (All-tail (Allows ports port) s ss all) in
     let Used : Bool → Type 0 =
-    λ (b : Bool). list_any (is_of class) (map (seen_at port) (cond b (stream_sender s ∷ kept) kept)) ≡ true in
+    λ (b : Bool). list_any (is_of class) (map (seen_at topology port) (cond b (stream_sender s ∷ kept) kept)) ≡ true in
     elim (cases_Bool (uses port (stream_sender s))) as (λ _. IsPlace ports port class) [
-      | inl e ↦ elim (or_cases (is_of class (seen_at port (stream_sender s))) (list_any (is_of class) rest)
+      | inl e ↦ elim (or_cases (is_of class (seen_at topology port (stream_sender s))) (list_any (is_of class) rest)
           (subst Used e used)) as (λ _. IsPlace ports port class) [
             | inl same ↦ record {
               ranked = omega (arith, eqb-true (class_at (stream_sender s) port) class same, first.class e);
@@ -74,6 +76,6 @@ allowed network port i n h =
 pub used_place : (network : DeclaredNetwork) (port class : ℕ) → IsNetwork network → is_used network port class ≡ true
     → IsPlace (length network.topology.ports) port class
 used_place network port class n used =
-    used_by (length network.topology.ports) port class network.streams
+    used_by network.topology (length network.topology.ports) port class network.streams
     (All-from_get_or (Allows (length network.topology.ports) port) network.streams no_stream
     (λ i h. allowed network port i n h)) used

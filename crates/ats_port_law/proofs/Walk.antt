@@ -5,7 +5,7 @@ use Rattle.std.proofs.Math.Nat.{mul-le-mul_left}
 use Rattle.std.proofs.lemmas.Bool.{cases_Bool, cases_lt, and_parts, and_from, and_right, and_left, leb-true, le-leb}
 use Rattle.std.proofs.lemmas.Bool.{lt-leb, cond-true, cond-false}
 use Rattle.ats_port_rule.specs.Transmission.{Transmission}
-use Rattle.ats_port_rule.specs.PortRule.{KeepsPortRule, StartsAfterGap}
+use Rattle.ats_port_rule.specs.PortRule.{KeepsPortRuleBy, StartsAfterGap}
 use Rattle.ats_port_law.proofs.Pairs.{TakesTime, EndsAt, gap_or_end}
 use Rattle.ats_port_law.proofs.Sums.{sum_by-one_more}
 
@@ -92,7 +92,8 @@ further class first last sent i d h c before order =
     omega (arith, more, in_walk class z.start last z c (omega arith) (omega (arith, before, order)))
 
 -- after a gap the walk ends
-ends_at_gap : (ps class lower : ℕ) (sent : List Transmission) (d x : Transmission) (limit : ℕ) → KeepsPortRule ps sent
+ends_at_gap : {told : Transmission → ℕ} (ps class lower : ℕ) (sent : List Transmission) (d x : Transmission)
+    (limit : ℕ) → KeepsPortRuleBy told ps sent
     → (h : Head ps class sent d x limit) → StartsAfterGap sent (get_or sent h.place d) → Walked ps class lower sent x
 ends_at_gap ps class lower sent d x limit r h gap =
     let head : Transmission = get_or sent h.place d in
@@ -105,7 +106,8 @@ ends_at_gap ps class lower sent d x limit r h gap =
     }
 
 -- behind a lower frame too
-ends_at_lower : (ps class lower : ℕ) (sent : List Transmission) (d x : Transmission) (limit : ℕ) → KeepsPortRule ps sent
+ends_at_lower : {told : Transmission → ℕ} (ps class lower : ℕ) (sent : List Transmission) (d x : Transmission)
+    (limit : ℕ) → KeepsPortRuleBy told ps sent
     → TakesTime ps sent → All (λ (y : Transmission). y.class < class → y.bits ≤ lower) sent
     → (h : Head ps class sent d x limit) → (z : EndsAt sent d (get_or sent h.place d).start)
     → (get_or sent z.place d).class < class → Walked ps class lower sent x
@@ -130,7 +132,8 @@ ends_at_lower ps class lower sent d x limit r long short h z below =
     }
 
 -- to a frame of the class or higher it goes on
-goes_on : (ps class : ℕ) (sent : List Transmission) (d x : Transmission) (limit : ℕ) → KeepsPortRule ps sent
+goes_on : {told : Transmission → ℕ} (ps class : ℕ) (sent : List Transmission) (d x : Transmission) (limit : ℕ)
+    → KeepsPortRuleBy told ps sent
     → TakesTime ps sent
     → (h : Head ps class sent d x (suc limit)) → (z : EndsAt sent d (get_or sent h.place d).start)
     → class ≤ (get_or sent z.place d).class → Head ps class sent d x limit
@@ -151,7 +154,8 @@ goes_on ps class sent d x limit r long h z above =
     }
 
 -- the walk back from a head, which starts by a limit
-pub walk : (ps class lower : ℕ) (sent : List Transmission) (d x : Transmission) → KeepsPortRule ps sent
+pub walk : {told : Transmission → ℕ} (ps class lower : ℕ) (sent : List Transmission) (d x : Transmission)
+    → KeepsPortRuleBy told ps sent
     → TakesTime ps sent → All (λ (y : Transmission). y.class < class → y.bits ≤ lower) sent
     → (limit : ℕ) → Head ps class sent d x limit → Walked ps class lower sent x
 walk ps class lower sent d x r long short zero h =

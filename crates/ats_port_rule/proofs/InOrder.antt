@@ -31,7 +31,7 @@ precedes_at key ps sent o i j d hi hj later eligible =
     ]
 
 ahead_from : (key : ℕ → ℕ → ℕ) (x y : Transmission) → Precedes key x y → IsAhead x y
-ahead_from key x y p = record { class = p.class; eligible = p.eligible }
+ahead_from key x y p = record { class = p.class; no_later = p.eligible }
 
 -- where one started after a gap, the other was not eligible before
 waited_at : (key : ℕ → ℕ → ℕ) (ps : ℕ) (sent : List Transmission) → IsInOrder key ps sent → (i j : ℕ) (d : Transmission)

@@ -11,15 +11,12 @@ use Rattle.ats_topology.proofs.Rules.{ports_are_lawful}
 use Rattle.ats_network.specs.Network.{DeclaredNetwork}
 use Rattle.ats_network.specs.Senders.{sender_at}
 use Rattle.ats_port_rule.specs.Transmission.{Transmission}
-use Rattle.ats_port_rule.specs.PortRule.{KeepsPortRule, AreApart}
+use Rattle.ats_port_rule.specs.PortRule.{KeepsPortRuleBy, AreApart}
 use Rattle.ats_port_law.specs.PortLaw.{IsOffered}
-use Rattle.ats_port_law.proofs.Pairs.{TakesTime, eligible_no_later}
-use Rattle.ats_bucket.specs.Conforming.{Frame}
-use Rattle.ats_streams.specs.declared.traffic.Declared.{Declared}
+use Rattle.ats_port_law.proofs.Pairs.{TakesTime, told_no_later}
 use Rattle.ats_trace.specs.Journey.{Travel, legs_at, legs_in}
 use Rattle.ats_trace.specs.Projections.{Hop, Crossing, Handed, hops_from, crossings_from, handed_from, sent_by}
 use Rattle.ats_trace.specs.Projections.{crossings_by, handed_by}
-use Rattle.ats_group.specs.Judge.{Judge}
 use Rattle.ats_soundness_law.proofs.Along.{hop_of}
 use Rattle.ats_soundness_law.proofs.Journeys.{each_has_crossed, each_was_sent}
 use Rattle.ats_soundness_law.proofs.Known.{Case, IsTold, told}
@@ -66,8 +63,7 @@ pub record HasArrived (network : DeclaredNetwork) (run : List Travel) (port clas
   pub sent : Contains (sent_by network run port) h.crossing.sent
   pub crossed : Contains (crossings_by network run port) h.crossing
 
-pub arrived : {judge : Judge} {rule : Declared → List Frame → Type 0} (network : DeclaredNetwork) (run : List Travel)
-    (port class : ℕ) → Case judge rule network run
+pub arrived : (network : DeclaredNetwork) (run : List Travel) (port class : ℕ) → Case network run
     → All (HasArrived network run port class) (handed_by network run port class)
 arrived network run port class c k d h =
     let handed : List Handed = handed_from network 0 run in
@@ -88,8 +84,7 @@ arrived network run port class c k d h =
     }
 
 -- each transmission that is offered takes time
-pub takes_time : {judge : Judge} {rule : Declared → List Frame → Type 0} (network : DeclaredNetwork) (run : List Travel)
-    (port : ℕ) → Case judge rule network run
+pub takes_time : (network : DeclaredNetwork) (run : List Travel) (port : ℕ) → Case network run
     → port < length network.topology.ports → IsOffered network port (sent_by network run port)
     → TakesTime (port_at network.topology.ports port).ps_per_bit (sent_by network run port)
 takes_time network run port c within offered k d h =
@@ -108,11 +103,14 @@ starts_first ps x y tx ty some order (inl (inr after)) = omega (arith, tx, some,
 starts_first ps x y tx ty some order (inr (inl after)) = omega (arith, tx, some, order, after)
 starts_first ps x y tx ty some order (inr (inr before)) = omega (arith, tx, before)
 
--- frames of one class leave a port in the order in which they became eligible
-pub leave_in_order : (ps : ℕ) (sent : List Transmission) → KeepsPortRule ps sent → TakesTime ps sent
-    → (x y : Transmission) → Contains sent x → Contains sent y → x.class ≡ y.class → x.end ≤ y.end
-    → x.eligible ≤ y.eligible
-leave_in_order ps sent rule long x y cx cy class order =
+-- frames of one class leave a port in the order of the times that they were told, where those that were told earlier
+-- times were eligible no later
+pub leave_in_order : {told : Transmission → ℕ} (ps : ℕ) (sent : List Transmission) → KeepsPortRuleBy told ps sent
+    → TakesTime ps sent
+    → All (λ (x : Transmission). All (λ (y : Transmission). x.class ≡ y.class → told x < told y
+    → x.eligible ≤ y.eligible) sent) sent
+    → (x y : Transmission) → Contains sent x → Contains sent y → x.class ≡ y.class → x.end ≤ y.end → told x ≤ told y
+leave_in_order {told} ps sent rule long kept x y cx cy class order =
     let i : ℕ = cx.0 in
     let j : ℕ = cy.0 in
     let at_i : get_or sent i x ≡ x = cx.2 in
@@ -123,14 +121,14 @@ leave_in_order ps sent rule long x y cx cy class order =
     subst (λ (z : Transmission). z.end ≡ z.start + ps * z.bits) at_j (rule.takes j x cy.1) in
     let some : 1 ≤ ps * x.bits = subst (λ (z : Transmission). 1 ≤ ps * z.bits) at_i (long i x cx.1) in
     let Pair : Transmission → Transmission → Type 0 = λ (a b : Transmission). a.class ≡ b.class → a.start ≤ b.start
-    → a.eligible ≤ b.eligible in
+    → told a ≤ told b in
     let pair : Pair x y = subst (λ (z : Transmission). Pair z y) at_i (subst
-    (λ (z : Transmission). Pair (get_or sent i x) z) at_j (eligible_no_later ps sent rule long i j x cx.1 cy.1)) in
-    elim (cases_order i j) as (λ _. x.eligible ≤ y.eligible) [
+    (λ (z : Transmission). Pair (get_or sent i x) z) at_j (told_no_later ps sent rule long kept i j x cx.1 cy.1)) in
+    elim (cases_order i j) as (λ _. told x ≤ told y) [
       | inl same ↦ (
           let one : x ≡ y = sym at_i ∙ ap (λ (n : ℕ). get_or sent n x) same ∙ at_j in
-          omega (arith, ap (λ (z : Transmission). z.eligible) one))
-      | inr differ ↦ elim differ as (λ _. x.eligible ≤ y.eligible) [
+          omega (arith, ap told one))
+      | inr differ ↦ elim differ as (λ _. told x ≤ told y) [
         | inl before ↦ pair class (starts_first ps x y takes_x takes_y some order
             (inl (subst (λ (z : Transmission). AreApart z y) at_i
             (subst (AreApart (get_or sent i x)) at_j (rule.apart i j x before cy.1)))))

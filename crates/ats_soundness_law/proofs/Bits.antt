@@ -23,33 +23,46 @@ sum_by-map {X} f g (x ∷ xs) =
     sum_by-cons g (f x) (map f xs) ∙ ap (λ (n : ℕ). g (f x) + n) (sum_by-map f g xs)
     ∙ sym (sum_by-cons (λ (x : X). g (f x)) x xs)
 
--- the weight of a transmission where it is of this sender and at this port
-abbrev pub hop_weight : ℕ → ℕ → (Frame → ℕ) → Hop → ℕ
-hop_weight i port weight g = cond (g.port == port) (cond (g.sent.sender == i) (weight (frame_of g.sent)) 0) 0
+-- what a transmission weighs, by the frame's number and as a token bucket counts it
+abbrev pub weight_of : (ℕ → Frame → ℕ) → Transmission → ℕ
+weight_of weight x = weight x.frame (frame_of x)
 
--- a sender's frames at a port, as a sum over all transmissions of a run
-pub frames_weight : (network : DeclaredNetwork) (run : List Travel) (i port : ℕ) (weight : Frame → ℕ)
-    → sum_by weight (frames_by i (sent_by network run port))
+-- where it is of this sender and at this port
+abbrev pub hop_weight : ℕ → ℕ → (ℕ → Frame → ℕ) → Hop → ℕ
+hop_weight i port weight g = cond (g.port == port) (cond (g.sent.sender == i) (weight_of weight g.sent) 0) 0
+
+-- the transmissions of a sender
+abbrev pub sent_of : ℕ → List Transmission → List Transmission
+sent_of i sent = filter (λ (x : Transmission). x.sender == i) sent
+
+-- a sender's transmissions at a port, as a sum over all of a run
+pub sent_weight : (network : DeclaredNetwork) (run : List Travel) (i port : ℕ) (weight : ℕ → Frame → ℕ)
+    → sum_by (weight_of weight) (sent_of i (sent_by network run port))
     ≡ sum_by (hop_weight i port weight) (hops_from network 0 run)
-frames_weight network run i port weight =
+sent_weight network run i port weight =
     let hops : List Hop = hops_from network 0 run in
-    let of_sender : Transmission → ℕ = λ (y : Transmission). cond (y.sender == i) (weight (frame_of y)) 0 in
-    sum_by-map frame_of weight (filter (λ (x : Transmission). x.sender == i) (sent_by network run port))
-    ∙ sum_by-filter (λ (x : Transmission). weight (frame_of x)) (λ (x : Transmission). x.sender == i)
-    (sent_by network run port)
+    let of_sender : Transmission → ℕ = λ (y : Transmission). cond (y.sender == i) (weight_of weight y) 0 in
+    sum_by-filter (weight_of weight) (λ (x : Transmission). x.sender == i) (sent_by network run port)
     ∙ sum_by-map (λ (h : Hop). h.sent) of_sender (filter (λ (h : Hop). h.port == port) hops)
     ∙ sum_by-filter (λ (h : Hop). of_sender h.sent) (λ (h : Hop). h.port == port) hops
 
+-- so its frames there
+pub frames_weight : (network : DeclaredNetwork) (run : List Travel) (i port : ℕ) (weight : Frame → ℕ)
+    → sum_by weight (frames_by i (sent_by network run port))
+    ≡ sum_by (hop_weight i port (λ n. weight)) (hops_from network 0 run)
+frames_weight network run i port weight =
+    sum_by-map frame_of weight (sent_of i (sent_by network run port)) ∙ sent_weight network run i port (λ n. weight)
+
 -- the weight of what a group lets through of a sender
-abbrev pub through_weight : ℕ → (Frame → ℕ) → Handed → ℕ
-through_weight i weight h = sum_by weight (own_through i (offer_of h) h.verdict)
+abbrev pub through_weight : ℕ → (ℕ → Frame → ℕ) → Handed → ℕ
+through_weight i weight h = sum_by (weight h.crossing.sent.frame) (own_through i (offer_of h) h.verdict)
 
 -- where it comes from this port and is of this class
-abbrev pub handed_weight : ℕ → ℕ → ℕ → (Frame → ℕ) → Handed → ℕ
+abbrev pub handed_weight : ℕ → ℕ → ℕ → (ℕ → Frame → ℕ) → Handed → ℕ
 handed_weight i port class weight h =
     cond (h.crossing.port == port && h.crossing.sent.class == class) (through_weight i weight h) 0
 
-pub group_weight : (network : DeclaredNetwork) (run : List Travel) (i port class : ℕ) (weight : Frame → ℕ)
+pub group_weight : (network : DeclaredNetwork) (run : List Travel) (i port class : ℕ) (weight : ℕ → Frame → ℕ)
     → sum_by (through_weight i weight) (handed_by network run port class)
     ≡ sum_by (handed_weight i port class weight) (handed_from network 0 run)
 group_weight network run i port class weight =

@@ -1,16 +1,15 @@
 -- What is told of a journey, by its legs and by the routes of its sender.
-use Rattle.std.proofs.Common.{◌≡◌, ◌≢◌, ℕ, zero, suc, ◌+◌, ◌<◌, ◌≤◌, true, List, [], ◌∷◌, ◌++◌, length, take, get_or}
-use Rattle.std.proofs.Common.{All, sum_by, refl, sym, ap, ◌∙◌, subst, inl, inr, arith, length-append}
+use Rattle.std.proofs.Common.{◌≡◌, ◌≢◌, ℕ, suc, ◌<◌, ◌≤◌, true, List, [], ◌∷◌, ◌++◌, length, get_or}
+use Rattle.std.proofs.Common.{All, sum_by, refl, sym, ap, ◌∙◌, subst, inl, inr, arith}
 use Rattle.std.specs.Prelude.{◌==◌}
 use Rattle.std.specs.List.{AllPairs, concat, list_any}
 use Rattle.std.proofs.lemmas.Bool.{or_cases, eqb-true, false≢true}
-use Rattle.std.proofs.lemmas.List.{get_or_append_left, take_all}
 use Rattle.std.proofs.lemmas.List.Elements.{All-nil, All-append}
 use Rattle.std.proofs.lemmas.List.Sums.{sum_by-append}
 use Rattle.ats_facts.proofs.Lists.{all_left, all_right}
-use Rattle.ats_streams.specs.Branches.{BeginsEarlier, AreBranches, leads_of, leg_at, legs_of, no_branch}
+use Rattle.ats_streams.specs.Branches.{AreBranches, leads_of, leg_at, legs_of}
 use Rattle.ats_streams.specs.declared.branch.Branch.{Branch}
-use Rattle.ats_streams.proofs.BranchLemmas.{begins_at, lead_of, lead_of_trunk, legs-length, route-at, routes-length}
+use Rattle.ats_streams.proofs.BranchLemmas.{legs-length, route-at, routes-length}
 use Rattle.ats_streams.proofs.BranchLemmas.{trunk_within}
 use Rattle.ats_streams.proofs.RouteLemmas.{each_on_routes}
 use Rattle.ats_streams.specs.Path.{IsPath}
@@ -23,7 +22,7 @@ use Rattle.ats_network.specs.Sender.{Sender}
 use Rattle.ats_network.specs.Senders.{sender_at, no_sender, IsSender}
 use Rattle.ats_network.proofs.SenderLemmas.{each_is_sender}
 use Rattle.ats_network.proofs.Parts.{part_pairs}
-use Rattle.ats_network.proofs.ValidRoutes.{from_talker, route_part, walk_first}
+use Rattle.ats_network.proofs.ValidRoutes.{from_talker, route_part}
 use Rattle.ats_network.proofs.ValidRoutes.{route_begins}
 use Rattle.ats_certificate.specs.PortSums.{uses}
 use Rattle.ats_trace.specs.Journey.{Leg, Travel, IsJourney, legs_in}
@@ -206,7 +205,7 @@ route_apart topology s m keeps within =
     (part_pairs (λ p q. p ≢ q) route s.ports (route_part s.ports s.branches keeps.branches m many) keeps.apart)
 
 -- each route begins at the talker
-start_is : (ports : List Port) (path : List ℕ) → 0 < length path
+pub start_is : (ports : List Port) (path : List ℕ) → 0 < length path
     → start_of ports path ≡ (port_at ports (get_or path 0 0)).from
 start_is ports [] some = absurd (omega arith)
 start_is ports (p ∷ path) some = refl

@@ -8,15 +8,18 @@ use Rattle.ats_network.specs.Bridges.{IsBridgeAt, MeetAtBridge}
 use Rattle.ats_network.specs.Network.{DeclaredNetwork, IsNetwork, senders_of}
 use Rattle.ats_network.specs.Senders.{sender_at, IsSender}
 use Rattle.ats_certificate.specs.PortSums.{uses}
+use Rattle.ats_port_rule.specs.PortRule.{KeepsPortRuleBy}
+use Rattle.ats_port_rule.specs.Transmission.{Transmission}
 use Rattle.ats_streams.specs.Traffic.{is_declared_size}
 use Rattle.ats_trace.specs.Journey.{Travel, IsJourney, class_at, legs_in}
 use Rattle.ats_trace.specs.Projections.{Hop, Handed, journey_hops, journey_handed, hops_from, handed_from}
+use Rattle.ats_trace.specs.Projections.{crossings_by, sent_by}
 use Rattle.ats_trace.specs.Eligibility.{declared_by}
-use Rattle.ats_trace.specs.Run.{IsLegalBy, IsLegal}
+use Rattle.ats_trace.specs.Links.{KeepsLinkRule}
+use Rattle.ats_trace.specs.Run.{IsLegalBy}
 use Rattle.ats_trace.specs.Ways.{route_to, way_to}
-use Rattle.ats_group.specs.Judge.{Judge, ats_judge, bucket_rule}
+use Rattle.ats_group.specs.Judge.{Judge}
 use Rattle.ats_group_law.specs.Regulator.{IsRule, IsRegulator}
-use Rattle.ats_group_law.proofs.Regulator.{ats_is_regulator}
 use Rattle.ats_bucket.specs.Conforming.{Frame}
 use Rattle.ats_streams.specs.declared.traffic.Declared.{Declared}
 use Rattle.ats_soundness_law.proofs.Along.{AtPorts, all_handed}
@@ -24,19 +27,35 @@ use Rattle.ats_soundness_law.proofs.Journeys.{each_hop, each_on_route, handed_by
 use Rattle.ats_soundness_law.proofs.Lifts.{run_hops, run_handed}
 use Rattle.ats_soundness_law.proofs.Paths.{sender_is, uses_own, neighbours_with}
 
--- a network and a legal run of it, whose groups regulate by a rule
-pub record Case (judge : Judge) (rule : Declared → List Frame → Type 0) (network : DeclaredNetwork)
+-- a run of a network in which each frame makes a journey, each link keeps the link rule, and each port keeps the port
+-- rule by times that frames were told
+pub record Case (network : DeclaredNetwork) (run : List Travel) : Type 0 where
+  pub net : IsNetwork network
+  pub journeys : All (IsJourney network) run
+  pub told : ℕ → Transmission → ℕ
+  pub ports : (port : ℕ) → port < length network.topology.ports
+      → KeepsPortRuleBy (told port) (port_at network.topology.ports port).ps_per_bit (sent_by network run port)
+  pub links : (port : ℕ) → port < length network.topology.ports
+      → KeepsLinkRule (port_at network.topology.ports port) (crossings_by network run port)
+
+-- a legal run by true time, whose groups regulate by a rule
+pub record CaseBy (judge : Judge) (rule : Declared → List Frame → Type 0) (network : DeclaredNetwork)
     (run : List Travel) : Type 0 where
   pub rules : IsRule rule
   pub regulator : IsRegulator judge rule
   pub net : IsNetwork network
   pub legal : IsLegalBy judge network run
 
--- as those of Asynchronous Traffic Shaping do
-pub ats_case : (network : DeclaredNetwork) (run : List Travel) → IsNetwork network → IsLegal network run
-    → Case ats_judge bucket_rule network run
-ats_case network run net legal =
-    record { rules = ats_is_regulator.rule; regulator = ats_is_regulator.regulator; net = net; legal = legal }
+-- each frame was told its eligibility time
+abbrev pub case_of : {judge : Judge} {rule : Declared → List Frame → Type 0} {network : DeclaredNetwork}
+    {run : List Travel} → CaseBy judge rule network run → Case network run
+case_of c = record {
+  net = c.net;
+  journeys = c.legal.journeys;
+  told = λ port x. x.eligible;
+  ports = c.legal.ports;
+  links = c.legal.links;
+}
 
 -- what is known of each transmission of a run
 pub record IsKnown (network : DeclaredNetwork) (g : Hop) : Type 0 where
@@ -53,11 +72,10 @@ journey_known network net n j is =
     each_hop (IsKnown network) n j.release s (legs_in j)
     (λ k d h e times. record { exists = is.sender; within = keeps.ports k d h; used = uses_own s k d h; ranked = refl })
 
-pub known : {judge : Judge} {rule : Declared → List Frame → Type 0} (network : DeclaredNetwork) (run : List Travel)
-    → Case judge rule network run
+pub known : (network : DeclaredNetwork) (run : List Travel) → Case network run
     → All (IsKnown network) (hops_from network 0 run)
 known network run c =
-    run_hops (IsJourney network) (IsKnown network) network 0 run (journey_known network c.net) c.legal.journeys
+    run_hops (IsJourney network) (IsKnown network) network 0 run (journey_known network c.net) c.journeys
 
 -- what is known of each frame that is handed on
 pub record IsTold (network : DeclaredNetwork) (h : Handed) : Type 0 where
@@ -83,11 +101,10 @@ journey_told network net n j is =
     (keeps.bridges m [] within))
     (journey_route network j m net is within).way)
 
-pub told : {judge : Judge} {rule : Declared → List Frame → Type 0} (network : DeclaredNetwork) (run : List Travel)
-    → Case judge rule network run
+pub told : (network : DeclaredNetwork) (run : List Travel) → Case network run
     → All (IsTold network) (handed_from network 0 run)
 told network run c =
-    run_handed (IsJourney network) (IsTold network) network 0 run (journey_told network c.net) c.legal.journeys
+    run_handed (IsJourney network) (IsTold network) network 0 run (journey_told network c.net) c.journeys
 
 -- so many octets are of a declared size exactly where their bits are
 pub bits_of_size : (network : DeclaredNetwork) (i octets : ℕ) → is_declared_size (declared_by network i) octets ≡ true

@@ -1,4 +1,5 @@
-use Rattle.std.proofs.Common.{ℕ, zero, suc, ◌+◌, ◌<◌, ◌≤◌, List, [], ◌∷◌, length, get_or, All, sum_by, subst, arith}
+use Rattle.std.proofs.Common.{◌≡◌, ℕ, zero, suc, ◌+◌, ◌<◌, ◌≤◌, List, [], ◌∷◌, length, get_or, All, sum_by, subst}
+use Rattle.std.proofs.Common.{arith}
 use Rattle.std.specs.Prelude.{Contains}
 use Rattle.std.proofs.lemmas.List.Elements.{All-nil, All-head, All-tail, All-append}
 use Rattle.std.proofs.lemmas.List.Sums.{sum_by-cons, sum_by-append}
@@ -97,6 +98,24 @@ run_travels-le J f w network n [] each all = omega arith
 run_travels-le J f w network n (j ∷ run) each all =
     let here = each n j (All-head J j run all) in
     let rest = run_travels-le J f w network (n + 1) run each (All-tail J j run all) in
+    let hops = sum_by-append f (journey_hops network n j) (hops_from network (n + 1) run) in
+    let travels = sum_by-cons w j run in
+    omega (arith, here, rest, hops, travels)
+
+-- the same, with the number of each journey
+pub run_numbered-le : (J : ℕ → Travel → Type 0) (f : Hop → ℕ) (w : Travel → ℕ) (network : DeclaredNetwork) (n : ℕ)
+    (run : List Travel)
+    → ((n : ℕ) (j : Travel) → J n j → sum_by f (journey_hops network n j) ≤ w j)
+    → ((k : ℕ) (d : Travel) → k < length run → J (n + k) (get_or run k d))
+    → sum_by f (hops_from network n run) ≤ sum_by w run
+run_numbered-le J f w network n [] each all = omega arith
+run_numbered-le J f w network n (j ∷ run) each all =
+    let first : n + 0 ≡ n = omega arith in
+    let here = each n j (subst (λ (m : ℕ). J m j) first (all 0 j (omega arith))) in
+    let rest = run_numbered-le J f w network (n + 1) run each
+    (λ k d within. (
+    let next : n + suc k ≡ n + 1 + k = omega arith in
+    subst (λ (m : ℕ). J m (get_or run k d)) next (all (suc k) d (omega (arith, within))))) in
     let hops = sum_by-append f (journey_hops network n j) (hops_from network (n + 1) run) in
     let travels = sum_by-cons w j run in
     omega (arith, here, rest, hops, travels)

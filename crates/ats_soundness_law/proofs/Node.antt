@@ -1,5 +1,5 @@
 -- What a node that keeps its buckets is asked to send, a station or a bridge.
-use Rattle.std.proofs.Common.{◌≡◌, ℕ, ◌<◌, List, [], length, subst, sym, inl, inr}
+use Rattle.std.proofs.Common.{◌≡◌, ℕ, ◌<◌, List, [], length, subst, sym, inl, inr, arith}
 use Rattle.std.proofs.lemmas.Bool.{cases_Bool, cases_eq}
 use Rattle.ats_topology.specs.Port.{port_at}
 use Rattle.ats_network.specs.Bridges.{IsBridgeAt}
@@ -12,13 +12,15 @@ use Rattle.ats_streams.specs.declared.traffic.Declared.{Declared}
 use Rattle.ats_group.specs.Judge.{Judge}
 use Rattle.ats_trace.specs.Eligibility.{declared_by}
 use Rattle.ats_trace.specs.Journey.{Travel}
+use Rattle.ats_trace.specs.Projections.{sent_by}
 use Rattle.ats_trace.specs.Run.{releases_of}
 use Rattle.ats_trace.specs.Talker.{talker_of, frames_of, KeepsBucketsBy}
 use Rattle.ats_trace.specs.declared.journey.Release.{Release}
-use Rattle.ats_soundness_law.specs.Laws.{PortIsOffered}
 use Rattle.ats_soundness_law.specs.Sound.{BeginAtStations, BridgesKeep}
+use Rattle.ats_port_law.specs.PortLaw.{frame_of}
+use Rattle.ats_soundness_law.proofs.Bits.{sent_of, sum_by-map}
 use Rattle.ats_soundness_law.proofs.Journeys.{StandsAt, stands_at}
-use Rattle.ats_soundness_law.proofs.Known.{Case, ats_case}
+use Rattle.ats_soundness_law.proofs.Known.{CaseBy, case_of}
 use Rattle.ats_soundness_law.proofs.LetThrough.{group_kept, none_weight}
 use Rattle.ats_soundness_law.proofs.Lifts.{run_hops_by}
 use Rattle.ats_soundness_law.proofs.Offered.{DeclaredAt, Kept, IsFed, fed}
@@ -27,10 +29,11 @@ use Rattle.ats_soundness_law.proofs.Paths.{not_both, sender_is}
 use Rattle.ats_soundness_law.proofs.Sized.{IsSized, sized}
 use Rattle.ats_soundness_law.proofs.Sizes.{Paced, journey_declared, paced}
 use Rattle.ats_soundness_law.proofs.Streams.{stream_exists, stream_ruled}
+use Rattle.ats_soundness_law.proofs.Wider.{declared_to_committed}
 
 -- a stream that begins elsewhere: what the groups of the node let through of it
 passed_kept : {judge : Judge} {rule : Declared → List Frame → Type 0} (network : DeclaredNetwork)
-    (run : List Travel) (port : ℕ) → Case judge rule network run → (i : ℕ) → i < length network.streams
+    (run : List Travel) (port : ℕ) → CaseBy judge rule network run → (i : ℕ) → i < length network.streams
     → (talker_of network i ≡ (port_at network.topology.ports port).from → ⊥) → Kept rule network run port i
 passed_kept {judge} {rule} network run port c i h elsewhere =
     let s : Sender = sender_at network i in
@@ -41,14 +44,17 @@ passed_kept {judge} {rule} network run port c i h elsewhere =
           group_kept network run port c i h elsewhere stands.leg stands.hop stands.at)
       | inr unused ↦ record {
         others = [];
-        keeps = c.regulator.keeps (declared_by network) 0 [] i (stream_ruled network c.net i h);
-        no_more = λ weight. none_weight network run i port weight c unused;
+        keeps = declared_to_committed network port i [] c.rules c.net
+            (c.regulator.keeps (declared_by network) 0 [] i (stream_ruled network c.net i h));
+        no_more = λ weight. (
+            let none = none_weight network run i port (λ n. weight) (case_of c) unused in
+            omega (arith, none, sum_by-map frame_of weight (sent_of i (sent_by network run port))));
       }
     ]
 
 -- and one that begins there: its releases
 stream_kept : {judge : Judge} {rule : Declared → List Frame → Type 0} (network : DeclaredNetwork)
-    (run : List Travel) (port : ℕ) → Case judge rule network run
+    (run : List Travel) (port : ℕ) → CaseBy judge rule network run
     → KeepsBucketsBy rule network (releases_of run) (port_at network.topology.ports port).from
     → (i : ℕ) → i < length network.streams → Kept rule network run port i
 stream_kept {judge} {rule} network run port c keeps i h =
@@ -56,26 +62,27 @@ stream_kept {judge} {rule} network run port c keeps i h =
     (λ _. Kept rule network run port i) [
       | inl begins ↦ record {
         others = frames_of i (releases_of run);
-        keeps = keeps.streams i h begins;
-        no_more = λ weight. own_weight network run i port weight c begins;
+        keeps = declared_to_committed network port i (frames_of i (releases_of run)) c.rules c.net
+            (keeps.streams i h begins);
+        no_more = λ weight. (
+            let own = own_weight network run i port (λ n. weight) weight (case_of c) begins
+            (λ n d h same. omega arith) in
+            omega (arith, own, sum_by-map frame_of weight (sent_of i (sent_by network run port))));
       }
       | inr elsewhere ↦ passed_kept network run port c i h elsewhere
     ]
 
 pub port_fed : {judge : Judge} {rule : Declared → List Frame → Type 0} (network : DeclaredNetwork)
-    (run : List Travel) (port : ℕ) → Case judge rule network run
+    (run : List Travel) (port : ℕ) → CaseBy judge rule network run
     → KeepsBucketsBy rule network (releases_of run) (port_at network.topology.ports port).from
     → IsFed rule network run port
 port_fed network run port c keeps =
     let from : ℕ = (port_at network.topology.ports port).from in
     fed network run port c
     (run_hops_by (Paced network from) (IsSized network) (DeclaredAt network port) network 0 run
-    (journey_declared network run port c) (paced network run from c keeps) (sized network run c))
+    (journey_declared network run port (case_of c)) (paced network run from (case_of c) keeps.sizes)
+    (sized network run c))
     (stream_kept network run port c keeps)
-
-pub port_offered : PortIsOffered
-port_offered network run port net legal within keeps =
-    (port_fed network run port (ats_case network run net legal) keeps).offered
 
 -- where all routes begin at stations, each bridge keeps its buckets whatever is released
 pub bridge_keeps : (rule : Declared → List Frame → Type 0) (network : DeclaredNetwork) (releases : List Release)

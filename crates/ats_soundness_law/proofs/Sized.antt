@@ -13,13 +13,13 @@ use Rattle.ats_bucket.specs.Conforming.{Frame}
 use Rattle.ats_streams.specs.declared.traffic.Declared.{Declared}
 use Rattle.ats_trace.specs.Journey.{Travel}
 use Rattle.ats_trace.specs.Projections.{Handed, handed_by, handed_from}
-use Rattle.ats_trace.specs.Eligibility.{declared_by, offer_of, IsJudged, IsPassed, residence_of_groups}
+use Rattle.ats_trace.specs.Eligibility.{declared_by, offer_of, IsJudged, IsPassed, residence_of_groups, scheduled_by}
 use Rattle.std.specs.List.{AllZip}
 use Rattle.ats_group.specs.Judge.{OnEligible, Judge}
 use Rattle.ats_group_law.specs.Regulator.{IsEligibleSized, IsRegulator}
 use Rattle.ats_group_law.proofs.Regulator.{by_size}
 use Rattle.ats_group_law.proofs.ShapingUse.{All-from_all_zip}
-use Rattle.ats_soundness_law.proofs.Known.{Case, IsTold, told}
+use Rattle.ats_soundness_law.proofs.Known.{CaseBy, IsTold, case_of, told}
 
 -- where a frame that was handed on is eligible, it has a declared size
 abbrev pub IsSized : DeclaredNetwork → Handed → Type 0
@@ -27,19 +27,20 @@ IsSized network h =
     OnEligible h.verdict (λ e. is_declared_size (declared_by network h.crossing.sent.sender) h.crossing.octets ≡ true)
 
 -- so of the verdicts of a group that regulates
-group_sized : {judge : Judge} {rule : Declared → List Frame → Type 0} (network : DeclaredNetwork) (residence_ns : ℕ)
+group_sized : {judge : Judge} {rule : Declared → List Frame → Type 0} (network : DeclaredNetwork) (port : ℕ)
     → IsRegulator judge rule
     → (arrivals : List Handed)
-    → map (λ (h : Handed). h.verdict) arrivals ≡ judge (declared_by network) residence_ns (map offer_of arrivals)
+    → map (λ (h : Handed). h.verdict) arrivals
+    ≡ judge (scheduled_by network port) (residence_of_groups network port) (map offer_of arrivals)
     → All (IsSized network) arrivals
-group_sized network residence_ns regulator arrivals same =
-    let Sized : Offer → Verdict → Type 0 = IsEligibleSized (declared_by network) in
+group_sized network port regulator arrivals same =
+    let Sized : Offer → Verdict → Type 0 = IsEligibleSized (scheduled_by network port) in
     All-from_all_zip Sized offer_of (λ (h : Handed). h.verdict) arrivals
     (subst (AllZip Sized (map offer_of arrivals)) (sym same)
-    (regulator.sized (declared_by network) residence_ns (map offer_of arrivals)))
+    (regulator.sized (scheduled_by network port) (residence_of_groups network port) (map offer_of arrivals)))
 
 -- and of those on flows
-flow_sized : (network : DeclaredNetwork) (h : Handed) → IsPassed network h → IsSized network h
+pub flow_sized : (network : DeclaredNetwork) (h : Handed) → IsPassed network h → IsSized network h
 flow_sized network h passed =
     let Sized : Verdict → Type 0 = λ (v : Verdict).
     OnEligible v (λ e. is_declared_size (declared_by network h.crossing.sent.sender) h.crossing.octets ≡ true) in
@@ -47,16 +48,16 @@ flow_sized network h passed =
     (Eligible (record { 0 = h.crossing.arrival })))
 
 place_sized : {judge : Judge} {rule : Declared → List Frame → Type 0} (network : DeclaredNetwork) (run : List Travel)
-    → Case judge rule network run
+    → CaseBy judge rule network run
     → (port class : ℕ) → port < length network.topology.ports → All (IsSized network) (handed_by network run port class)
 place_sized {judge} network run c port class within =
     elim (cases_lt 0 class) as (λ _. All (IsSized network) (handed_by network run port class)) [
       | inl shaped ↦ (
-          let j : IsJudged judge network (residence_of_groups network port) (handed_by network run port class) =
+          let j : IsJudged judge network port (handed_by network run port class) =
           c.legal.groups port class within shaped in
           All-permutation (IsSized network) j.arrivals (handed_by network run port class)
           (IsPermutation-sym (handed_by network run port class) j.arrivals j.same)
-          (group_sized network (residence_of_groups network port) c.regulator j.arrivals j.verdicts))
+          (group_sized network port c.regulator j.arrivals j.verdicts))
       | inr none ↦ (
           let zero_class : class ≡ 0 = omega arith in
           let Goal : ℕ → Type 0 = λ (n : ℕ). All (IsSized network) (handed_by network run port n) in
@@ -66,11 +67,11 @@ place_sized {judge} network run c port class within =
 
 -- so of all that is handed on in a legal run
 pub sized : {judge : Judge} {rule : Declared → List Frame → Type 0} (network : DeclaredNetwork) (run : List Travel)
-    → Case judge rule network run
+    → CaseBy judge rule network run
     → All (IsSized network) (handed_from network 0 run)
 sized network run c k d h =
     let one : Handed = get_or (handed_from network 0 run) k d in
-    let known : IsTold network one = told network run c k d h in
+    let known : IsTold network one = told network run (case_of c) k d h in
     All-from_filter (λ (h : Handed). h.crossing.port == one.crossing.port && h.crossing.sent.class
     == one.crossing.sent.class) (IsSized network) (handed_from network 0 run)
     (place_sized network run c one.crossing.port one.crossing.sent.class known.within)

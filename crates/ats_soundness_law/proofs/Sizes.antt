@@ -7,17 +7,15 @@ use Rattle.ats_network.specs.Sender.{Sender}
 use Rattle.ats_network.specs.Bridges.{MeetAtBridge}
 use Rattle.ats_network.specs.Network.{DeclaredNetwork, IsNetwork, senders_of}
 use Rattle.ats_network.specs.Senders.{sender_at, IsSender}
-use Rattle.ats_bucket.specs.Conforming.{Frame}
 use Rattle.ats_certificate.specs.PortSums.{uses}
 use Rattle.ats_streams.specs.Traffic.{is_declared_size}
-use Rattle.ats_streams.specs.declared.traffic.Declared.{Declared}
-use Rattle.ats_group.specs.Judge.{OnEligible, Judge}
+use Rattle.ats_group.specs.Judge.{OnEligible}
 use Rattle.ats_trace.specs.Journey.{Travel, IsJourney, IsWay, class_at}
 use Rattle.ats_trace.specs.Projections.{Handed, hops_along, handed_along, journey_hops, journey_handed}
 use Rattle.ats_trace.specs.Projections.{hop_at, transmission_of}
 use Rattle.ats_trace.specs.Eligibility.{declared_by}
 use Rattle.ats_trace.specs.Run.{releases_of}
-use Rattle.ats_trace.specs.Talker.{talker_of, start_of, KeepsBucketsBy}
+use Rattle.ats_trace.specs.Talker.{IsDeclaredSize, talker_of, start_of}
 use Rattle.ats_trace.specs.Ways.{route_to, way_to}
 use Rattle.ats_trace.specs.declared.journey.Release.{Release}
 use Rattle.ats_trace.specs.HopRecord.{HopRecord}
@@ -107,21 +105,22 @@ pub record Paced (network : DeclaredNetwork) (node : ℕ) (j : Travel) : Type 0 
   pub size : talker_of network j.release.sender ≡ node
       → is_declared_size (declared_by network j.release.sender) j.release.octets ≡ true
 
-pub paced : {judge : Judge} {rule : Declared → List Frame → Type 0} (network : DeclaredNetwork) (run : List Travel)
-    (node : ℕ) → Case judge rule network run
-    → KeepsBucketsBy rule network (releases_of run) node → All (Paced network node) run
-paced network run node c keeps k d h =
+pub paced : (network : DeclaredNetwork) (run : List Travel) (node : ℕ) → Case network run
+    → All (λ (r : Release). r.sender < length (senders_of network) → talker_of network r.sender ≡ node
+    → IsDeclaredSize network r) (releases_of run)
+    → All (Paced network node) run
+paced network run node c sizes k d h =
     let j : Travel = get_or run k d in
-    let is : IsJourney network j = c.legal.journeys k d h in
+    let is : IsJourney network j = c.journeys k d h in
     let Size : Release → Type 0 = λ (r : Release). r.sender < length (senders_of network)
     → talker_of network r.sender ≡ node → is_declared_size (declared_by network r.sender) r.octets ≡ true in
     let size : Size j.release = subst Size (get_or-map (λ (j : Travel). j.release) run k d d.release h)
-    (keeps.sizes k d.release (omega (arith, h, length-map run (λ (j : Travel). j.release)))) in
+    (sizes k d.release (omega (arith, h, length-map run (λ (j : Travel). j.release)))) in
     record { is = is; size = size is.sender }
 
 -- so all that it makes a port send has
-pub journey_declared : {judge : Judge} {rule : Declared → List Frame → Type 0} (network : DeclaredNetwork)
-    (run : List Travel) (port : ℕ) → Case judge rule network run → (n : ℕ) (j : Travel)
+pub journey_declared : (network : DeclaredNetwork) (run : List Travel) (port : ℕ) → Case network run
+    → (n : ℕ) (j : Travel)
     → Paced network (port_at network.topology.ports port).from j
     → All (IsSized network) (journey_handed network n j) → All (DeclaredAt network port) (journey_hops network n j)
 journey_declared network run port c n j paced all =

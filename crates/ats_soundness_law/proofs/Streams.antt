@@ -7,12 +7,13 @@ use Rattle.ats_network.specs.Sender.{Sender, stream_sender, flow_sender, declare
 use Rattle.ats_streams.specs.Stream.{IsClass}
 use Rattle.ats_network.specs.Class.{class_at, seen_at}
 use Rattle.ats_network.proofs.ClassLemmas.{class_at-stream}
+use Rattle.ats_network.proofs.RateLemmas.{scheduled_ruled, seen_ruled}
 use Rattle.ats_network.specs.Network.{DeclaredNetwork, IsNetwork, senders_of}
 use Rattle.ats_network.specs.Senders.{sender_at, no_sender}
 use Rattle.ats_certificate.specs.PortSums.{uses, is_of, is_used}
 use Rattle.ats_streams.specs.Traffic.{IsRuled}
 use Rattle.ats_port_law.proofs.Senders.{no_stream, stream_at}
-use Rattle.ats_trace.specs.Eligibility.{declared_by}
+use Rattle.ats_trace.specs.Eligibility.{committed_by, declared_by, scheduled_by}
 use Rattle.ats_soundness_law.proofs.Paths.{sender_is}
 
 -- the first senders are the streams
@@ -42,10 +43,21 @@ stream_class network net port i h used =
     (ap (uses port) (sym same) ∙ used) in
     omega (arith, class, of_class.least)
 
--- and it keeps the rules that a group asks of its members
+-- and there it keeps the rules that a group asks of its members: as it is declared, as the port sees it, and by what
+-- its scheduler has behind the port
 pub sender_ruled : (network : DeclaredNetwork) → IsNetwork network → (port i : ℕ) → i < length (senders_of network)
     → 1 ≤ class_at (sender_at network i) port → IsRuled (declared_by network i)
 sender_ruled network net port i h shaped = (sender_is network net i h).shaped port shaped
+
+pub committed_ruled : (network : DeclaredNetwork) → IsNetwork network → (port i : ℕ) → i < length (senders_of network)
+    → 1 ≤ class_at (sender_at network i) port → IsRuled (committed_by network port i)
+committed_ruled network net port i h shaped =
+    seen_ruled network.topology (sender_at network i) port (sender_is network net i h) shaped
+
+pub member_ruled : (network : DeclaredNetwork) → IsNetwork network → (port i : ℕ) → i < length (senders_of network)
+    → 1 ≤ class_at (sender_at network i) port → IsRuled (scheduled_by network port i)
+member_ruled network net port i h shaped =
+    scheduled_ruled network.topology (sender_at network i) port (sender_is network net i h) shaped
 
 pub stream_ruled : (network : DeclaredNetwork) → IsNetwork network → (i : ℕ) → i < length network.streams
     → IsRuled (declared_by network i)
@@ -77,7 +89,7 @@ stream_used network port i h used =
     let streams : List Sender = map stream_sender network.streams in
     let class : ℕ = class_at (sender_at network i) port in
     let same = first_senders network i h in
-    any_chosen (is_of class) (seen_at port) (uses port) streams i no_sender
+    any_chosen (is_of class) (seen_at network.topology port) (uses port) streams i no_sender
     (omega (arith, h, length-map network.streams stream_sender))
     (ap (uses port) (sym same) ∙ used)
-    (ap (λ (s : Sender). is_of class (seen_at port s)) (sym same) ∙ eq-eqb class class refl)
+    (ap (λ (s : Sender). is_of class (seen_at network.topology port s)) (sym same) ∙ eq-eqb class class refl)

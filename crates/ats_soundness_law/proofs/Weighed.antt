@@ -26,7 +26,7 @@ use Rattle.ats_soundness_law.proofs.Parts.{part-le}
 use Rattle.ats_soundness_law.proofs.Routes.{own_leg, own_ports}
 
 -- along ports of which none is this one nothing is counted
-weightless : (i port : ℕ) (weight : Frame → ℕ) (n : ℕ) (r : Release) (s : Sender) (path : List ℕ) (leg : Leg)
+weightless : (i port : ℕ) (weight : ℕ → Frame → ℕ) (n : ℕ) (r : Release) (s : Sender) (path : List ℕ) (leg : Leg)
     → All (λ (p : ℕ). port ≢ p) path → sum_by (hop_weight i port weight) (hops_on n r s path leg) ≤ 0
 weightless i port weight n r s path leg away =
     let f : Hop → ℕ = hop_weight i port weight in
@@ -36,8 +36,8 @@ weightless i port weight n r s path leg away =
     omega (arith, sum_by-none f (hops_along n r s path leg.hops) each)
 
 -- a frame weighs at a port no more than along the route of the leg that has the port
-pub weighs_on_route : (network : DeclaredNetwork) (i port : ℕ) (weight : Frame → ℕ) (n : ℕ) (j : Travel) (leg hop : ℕ)
-    → IsNetwork network → IsJourney network j → IsAt (sender_at network j.release.sender) port leg hop
+pub weighs_on_route : (network : DeclaredNetwork) (i port : ℕ) (weight : ℕ → Frame → ℕ) (n : ℕ) (j : Travel)
+    (leg hop : ℕ) → IsNetwork network → IsJourney network j → IsAt (sender_at network j.release.sender) port leg hop
     → sum_by (hop_weight i port weight) (journey_hops network n j)
     ≤ sum_by (hop_weight i port weight) (hops_along n j.release (sender_at network j.release.sender)
     (route_to (sender_at network j.release.sender) leg) (way_to (sender_at network j.release.sender) j leg).hops)
@@ -70,7 +70,7 @@ away_from port (p ∷ ports) none =
     All-cons (λ (q : ℕ). port ≢ q) p ports (λ same. true≢false (sym (eq-eqb p port (sym same)) ∙ parts.0))
     (away_from port ports parts.1)
 
-pub weighs_nothing : (network : DeclaredNetwork) (i port : ℕ) (weight : Frame → ℕ) (n : ℕ) (j : Travel)
+pub weighs_nothing : (network : DeclaredNetwork) (i port : ℕ) (weight : ℕ → Frame → ℕ) (n : ℕ) (j : Travel)
     → IsNetwork network → IsJourney network j → uses port (sender_at network j.release.sender) ≡ false
     → sum_by (hop_weight i port weight) (journey_hops network n j) ≤ 0
 weighs_nothing network i port weight n j net is unused =
@@ -88,7 +88,7 @@ weighs_nothing network i port weight n j net is unused =
     )
 
 -- so with a frame of another sender
-pub weighs_for_own : (network : DeclaredNetwork) (i port : ℕ) (weight : Frame → ℕ) (n : ℕ) (j : Travel)
+pub weighs_for_own : (network : DeclaredNetwork) (i port : ℕ) (weight : ℕ → Frame → ℕ) (n : ℕ) (j : Travel)
     → (j.release.sender ≡ i → ⊥) → sum_by (hop_weight i port weight) (journey_hops network n j) ≤ 0
 weighs_for_own network i port weight n j other =
     let r : Release = j.release in
@@ -100,7 +100,7 @@ weighs_for_own network i port weight n j other =
     omega (arith, sum_by-none f (journey_hops network n j) each)
 
 -- it weighs no more than along any route
-pub weighs_by_routes : (network : DeclaredNetwork) (i port : ℕ) (weight : Frame → ℕ) (most n : ℕ) (j : Travel)
+pub weighs_by_routes : (network : DeclaredNetwork) (i port : ℕ) (weight : ℕ → Frame → ℕ) (most n : ℕ) (j : Travel)
     → IsNetwork network → IsJourney network j
     → ((m : ℕ) → m < listener_count (sender_at network j.release.sender)
     → sum_by (hop_weight i port weight) (hops_along n j.release (sender_at network j.release.sender)

@@ -1,3 +1,5 @@
+pub mod TrueTime
+pub mod Runs
 pub mod Sound
 pub mod Rules
 pub mod Laws

@@ -11,15 +11,15 @@ use Rattle.ats_bucket.specs.Conforming.{Frame}
 use Rattle.ats_streams.specs.declared.traffic.Declared.{Declared}
 use Rattle.ats_group.specs.declared.verdict.Verdict.{Verdict}
 use Rattle.ats_group.specs.declared.verdict.Verdict.TheVariants.{Eligible, Late, Size}
-use Rattle.ats_group.specs.Judge.{OnEligible, Judge, ats_judge, bucket_rule}
+use Rattle.ats_group.specs.Judge.{OnEligible}
 use Rattle.ats_trace.specs.Journey.{Leg, Travel, IsOfStream}
 use Rattle.ats_trace.specs.Ways.{listener_count, route_to, way_to}
-use Rattle.ats_trace.specs.Run.{IsLegalBy, releases_of}
 use Rattle.ats_trace.specs.Talker.{talker_of, KeepsBucketsBy}
 use Rattle.ats_trace.specs.declared.journey.Release.{Release}
 use Rattle.ats_trace.specs.HopRecord.{HopRecord}
 use Rattle.ats_trace.specs.declared.journey.Ending.{Ending}
 use Rattle.ats_trace.specs.declared.journey.Ending.TheVariants.{Sink, Discard}
+use Rattle.ats_soundness_law.specs.Runs.{Runs, ats_runs}
 
 -- a verdict of eligible by this time, and what holds of its time
 abbrev pub IsEligibleBy : ℕ → (ℕ → Type 0) → Verdict → Type 0
@@ -87,53 +87,60 @@ BridgesKeep rule network releases ports =
     All (λ p. IsBridgeAt network.topology (port_at network.topology.ports p).from
     → KeepsBucketsBy rule network releases (port_at network.topology.ports p).from) ports
 
--- in each legal run, where groups judge so, each frame of a stream whose talker keeps this rule is served at each
--- listener such that the bridges that ports of the route there leave keep it too
-abbrev pub AreServed : Judge → (Declared → List Frame → Type 0) → DeclaredNetwork → List Row → Type 0
-AreServed judge rule network rows = (run : List Travel) → IsLegalBy judge network run → (journey : Travel)
+-- in a legal run each bridge that one of these ports leaves keeps what is asked of it
+abbrev pub BridgesKeepIn : (runs : Runs) (network : DeclaredNetwork) (run : List Travel) → runs.legal network run
+    → List ℕ → Type 0
+BridgesKeepIn runs network run legal ports =
+    All (λ p. IsBridgeAt network.topology (port_at network.topology.ports p).from
+    → runs.keeps network run legal (port_at network.topology.ports p).from) ports
+
+-- in each legal run each frame of a stream whose talker keeps what is asked of it is served at each listener such that
+-- the bridges that ports of the route there leave keep it too
+abbrev pub AreServed : Runs → DeclaredNetwork → List Row → Type 0
+AreServed runs network rows = (run : List Travel) → (legal : runs.legal network run) → (journey : Travel)
     → Contains run journey → IsOfStream network journey
-    → KeepsBucketsBy rule network (releases_of run) (talker_of network journey.release.sender)
+    → runs.keeps network run legal (talker_of network journey.release.sender)
     → (listener : ℕ) → listener < listener_count (sender_at network journey.release.sender)
-    → BridgesKeep rule network (releases_of run) (route_to (sender_at network journey.release.sender) listener)
+    → BridgesKeepIn runs network run legal (route_to (sender_at network journey.release.sender) listener)
     → IsServedOn rows (sender_at network journey.release.sender) journey.release
     (route_to (sender_at network journey.release.sender) listener)
     (way_to (sender_at network journey.release.sender) journey listener)
 
 -- and each frame of any stream is contained, whatever its talker does, on its way to each listener such that the
--- bridges that ports of the route but the first leave keep the rule
-abbrev pub AreContained : Judge → (Declared → List Frame → Type 0) → DeclaredNetwork → List Row → Type 0
-AreContained judge rule network rows = (run : List Travel) → IsLegalBy judge network run → (journey : Travel)
+-- bridges that ports of the route but the first leave keep it
+abbrev pub AreContained : Runs → DeclaredNetwork → List Row → Type 0
+AreContained runs network rows = (run : List Travel) → (legal : runs.legal network run) → (journey : Travel)
     → Contains run journey → IsOfStream network journey
     → (listener : ℕ) → listener < listener_count (sender_at network journey.release.sender)
-    → BridgesKeep rule network (releases_of run)
+    → BridgesKeepIn runs network run legal
     (all_but_first (route_to (sender_at network journey.release.sender) listener))
     → IsContainedOn rows (sender_at network journey.release.sender)
     (route_to (sender_at network journey.release.sender) listener)
     (way_to (sender_at network journey.release.sender) journey listener)
 
--- the bounds of these rows are sound, where groups judge so and talkers keep this rule: frames are served and contained
-pub record IsSoundBy (judge : Judge) (rule : Declared → List Frame → Type 0) (network : DeclaredNetwork)
-    (rows : List Row) : Type 0 where
-  pub served : AreServed judge rule network rows
-  pub contained : AreContained judge rule network rows
+-- the bounds of these rows are sound in these runs: frames are served and contained
+pub record IsSoundBy (runs : Runs) (network : DeclaredNetwork) (rows : List Row) : Type 0 where
+  pub served : AreServed runs network rows
+  pub contained : AreContained runs network rows
 
--- and the groups are those of Asynchronous Traffic Shaping, and talkers keep their buckets
+-- in those of Asynchronous Traffic Shaping, where each bridge goes by its own clock, and talkers keep their buckets,
+-- each by its own clock; all times that are promised are true ones
 abbrev pub IsSound : DeclaredNetwork → List Row → Type 0
-IsSound network rows = IsSoundBy ats_judge bucket_rule network rows
+IsSound network rows = IsSoundBy ats_runs network rows
 
 -- no bridge has frames of its own: the routes of each sender begin at a station
 abbrev pub BeginAtStations : DeclaredNetwork → Type 0
 BeginAtStations network =
     (i : ℕ) → i < length (senders_of network) → IsStationAt network.topology (talker_of network i)
 
--- what sound bounds promise then, where nothing is asked of bridges: each frame of a stream whose talker keeps this
--- rule is served at each listener, and each frame of any stream is contained on its way to each
-pub record IsSoundFromStations (judge : Judge) (rule : Declared → List Frame → Type 0) (network : DeclaredNetwork)
-    (rows : List Row) : Type 0 where
-  pub served : (run : List Travel) → IsLegalBy judge network run → (journey : Travel)
+-- what sound bounds promise then, where nothing is asked of bridges: each frame of a stream whose talker, a station
+-- that reads true time, keeps what is asked of it is served at each listener, and each frame of any stream is contained
+-- on its way to each
+pub record IsSoundFromStations (runs : Runs) (network : DeclaredNetwork) (rows : List Row) : Type 0 where
+  pub served : (run : List Travel) → runs.legal network run → (journey : Travel)
       → Contains run journey → IsOfStream network journey
-      → KeepsBucketsBy rule network (releases_of run) (talker_of network journey.release.sender)
+      → runs.station_keeps network run (talker_of network journey.release.sender)
       → IsServed rows (sender_at network journey.release.sender) journey
-  pub contained : (run : List Travel) → IsLegalBy judge network run → (journey : Travel)
+  pub contained : (run : List Travel) → runs.legal network run → (journey : Travel)
       → Contains run journey → IsOfStream network journey
       → IsContained rows (sender_at network journey.release.sender) journey

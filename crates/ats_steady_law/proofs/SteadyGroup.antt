@@ -10,7 +10,7 @@ use Rattle.ats_group.specs.declared.verdict.Verdict.TheVariants.{Eligible, Late}
 use Rattle.ats_group_law.specs.Full.{FullState, full_eligibility, full_first, full_judged, full_state_by, full_verdicts}
 use Rattle.ats_group_law.proofs.FullFold.{full_fold}
 use Rattle.ats_group_law.proofs.FullStep.{full_eligibility-least, full_eligibility-only}
-use Rattle.ats_trace.specs.Eligibility.{declared_by}
+use Rattle.ats_trace.specs.Eligibility.{scheduled_by}
 use Rattle.ats_legal_law.proofs.Rows.{row}
 use Rattle.ats_steady_law.specs.Steady.{steady_line}
 
@@ -24,7 +24,7 @@ abbrev pub eligible_at : ℕ → Verdict
 eligible_at k = Eligible (record { 0 = k * 672000 + 2172000 })
 
 abbrev declared : ℕ → Declared
-declared = declared_by steady_line
+declared = scheduled_by steady_line 0
 
 is_in_time : (a more : ℕ) → nat_le a (a + more) ≡ true
 is_in_time a more = grind (arith, nat_tests)

@@ -12,7 +12,7 @@ use Rattle.ats_port_rule.specs.PortRule.{KeepsPortRule}
 use Rattle.ats_port_rule.specs.Transmission.{Transmission}
 use Rattle.ats_group.specs.Judge.{ats_judge}
 use Rattle.ats_group.specs.Group.{Offer}
-use Rattle.ats_trace.specs.Eligibility.{IsJudged, IsPassed, declared_by, offer_of, residence_of_groups}
+use Rattle.ats_trace.specs.Eligibility.{IsJudged, IsPassed, offer_of, scheduled_by}
 use Rattle.ats_trace.specs.Journey.{IsJourney, Travel}
 use Rattle.ats_trace.specs.Links.{ArrivesWithin, KeepsLinkRule, KeepsTimes}
 use Rattle.ats_trace.specs.Projections.{Crossing, Handed, Hop, crossings_by, crossings_from, handed_by, handed_from}
@@ -152,7 +152,7 @@ station_row gap short = record {
   waits = λ i. mul-le-mul_left i short;
   takes = λ i. omega arith;
   apart = λ i j before. omega arith;
-  chosen = λ i j before eligible. record { class = omega arith; eligible = λ same. in_turn i j (omega arith) };
+  chosen = λ i j before eligible. record { class = omega arith; no_later = λ same. in_turn i j (omega arith) };
   first = λ j before. omega arith;
   prompt = λ i j differs before. absurd (differs (omega arith));
 }
@@ -219,8 +219,8 @@ links_keep gap n (suc (suc (suc zero))) within =
     subst (KeepsTimes 1500000 1500000) (sym (crossed_3 gap 0 n)) (no_times 1500000 1500000)
 links_keep gap n (suc (suc (suc (suc port)))) within = absurd (omega arith)
 
-none_judged : (residence_ns : ℕ) → IsJudged ats_judge steady_line residence_ns []
-none_judged residence_ns = record {
+none_judged : (port : ℕ) → IsJudged ats_judge steady_line port []
+none_judged port = record {
   arrivals = [];
   same = IsPermutation-refl [];
   in_order = λ i j d before inside. absurd (omega arith);
@@ -228,7 +228,7 @@ none_judged residence_ns = record {
 }
 
 -- the group behind the station judges each frame at its arrival
-row_judged : (gap n : ℕ) → IsJudged ats_judge steady_line 1000000 (row (given gap) 0 n)
+row_judged : (gap n : ℕ) → IsJudged ats_judge steady_line 0 (row (given gap) 0 n)
 row_judged gap n = record {
   arrivals = row (given gap) 0 n;
   same = IsPermutation-refl (row (given gap) 0 n);
@@ -236,31 +236,29 @@ row_judged gap n = record {
       (pairs_row (λ (x y : Handed). x.crossing.arrival ≤ y.crossing.arrival) (given gap) 0 n
       (λ i j before. omega arith));
   verdicts = map-row (λ (h : Handed). h.verdict) (given gap) 0 n ∙ each_eligible n
-      ∙ ap (λ (offers : List Offer). ats_judge (declared_by steady_line) 1000000 offers)
+      ∙ ap (λ (offers : List Offer). ats_judge (scheduled_by steady_line 0) 1000000 offers)
       (sym (map-row offer_of (given gap) 0 n));
 }
 
 none_judged_there : (gap n port class : ℕ) → ((i : ℕ) → is_of port class (given gap i) ≡ false)
-    → IsJudged ats_judge steady_line (residence_of_groups steady_line port)
-    (handed_by steady_line (steady_from gap 0 n) port class)
+    → IsJudged ats_judge steady_line port (handed_by steady_line (steady_from gap 0 n) port class)
 none_judged_there gap n port class fails =
-    subst (IsJudged ats_judge steady_line (residence_of_groups steady_line port))
-    (sym (none_given gap n port class fails)) (none_judged (residence_of_groups steady_line port))
+    subst (IsJudged ats_judge steady_line port) (sym (none_given gap n port class fails)) (none_judged port)
 
-groups_judge : (gap n port class : ℕ) → IsJudged ats_judge steady_line (residence_of_groups steady_line port)
-    (handed_by steady_line (steady_from gap 0 n) port class)
+groups_judge : (gap n port class : ℕ)
+    → IsJudged ats_judge steady_line port (handed_by steady_line (steady_from gap 0 n) port class)
 groups_judge gap n (suc port) class =
     let differs : 0 ≢ suc port = λ same. absurd (omega arith) in
     none_judged_there gap n (suc port) class
     (λ i. false_and (0 == suc port) (6 == class) (ne_eqb 0 (suc port) differs))
 groups_judge gap n zero class = by_class (cases_eq class 6)
   where
-    by_class : (class ≡ 6) ⊎ (class ≢ 6) → IsJudged ats_judge steady_line 1000000
+    by_class : (class ≡ 6) ⊎ (class ≢ 6) → IsJudged ats_judge steady_line 0
         (handed_by steady_line (steady_from gap 0 n) 0 class)
     by_class (inl same) =
-        subst (λ (c : ℕ). IsJudged ats_judge steady_line 1000000
+        subst (λ (c : ℕ). IsJudged ats_judge steady_line 0
         (handed_by steady_line (steady_from gap 0 n) 0 c)) (sym same)
-        (subst (IsJudged ats_judge steady_line 1000000) (sym (given_there gap n)) (row_judged gap n))
+        (subst (IsJudged ats_judge steady_line 0) (sym (given_there gap n)) (row_judged gap n))
     by_class (inr other) =
         none_judged_there gap n 0 class
         (λ i. and_false (0 == 0) (6 == class) (ne_eqb 6 class (λ same. other (sym same))))

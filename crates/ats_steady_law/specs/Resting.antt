@@ -1,6 +1,9 @@
-use Rattle.std.specs.Prelude.{[], All}
+use Rattle.std.specs.Prelude.{◌≡◌, [], ◌∷◌, codes, All}
+use Rattle.ats_topology.specs.Topology.{topology_of}
+use Rattle.ats_topology.specs.declared.node.Kind.TheVariants.{Bridge}
 use Rattle.ats_network.specs.Network.{DeclaredNetwork, declared_network}
-use Rattle.ats_examples.specs.Networks.{below, fork, line, line_and_flow}
+use Rattle.ats_trace.specs.Eligibility.{scheduled_by}
+use Rattle.ats_examples.specs.Networks.{below, fork, line, line_and_flow, line_links, station}
 use Rattle.ats_examples.specs.Runs.{late, one_frame}
 use Rattle.ats_legal_law.specs.Rest.{IsOverBy, RestsUntil}
 
@@ -30,3 +33,19 @@ pub record EachStreamRests : Type 0 where
   pub beside_flow : RestsUntil line_and_flow 26672000 150032000
   pub of_none : RestsUntil flow_alone 5 6
   pub none_not_at_once : ¬ RestsUntil flow_alone 5 5
+
+-- the line where the clock of the bridge may step by 10 microseconds, so that the scheduler there has a greater burst
+-- than the stream declares
+abbrev pub stepping_line : DeclaredNetwork
+stepping_line = declared_network (topology_of
+    (station (codes "s1")
+    ∷ station (codes "s2")
+    ∷ record { name = codes "b1"; kind = Bridge 1000 1000 1000000 0 10000000 }
+    ∷ []) line_links) line.streams []
+
+-- and a network rests until the bucket of each scheduler is full: this one's fills in 133360000 ps, ten microseconds
+-- after that of its stream
+pub record EachSchedulerRests : Type 0 where
+  pub burst : (scheduled_by stepping_line 0 0).burst_bits ≡ 13336
+  pub rests : RestsUntil stepping_line 0 133360000
+  pub not_earlier : ¬ RestsUntil stepping_line 0 133359999

@@ -6,7 +6,7 @@ use Rattle.ats_port_rule.specs.Transmission.{Transmission}
 use Rattle.ats_trace.specs.Journey.{Travel}
 use Rattle.ats_trace.specs.Projections.{sent_by}
 use Rattle.ats_trace.specs.Releases.{AreReleases}
-use Rattle.ats_trace.specs.Run.{IsLegal, releases_of}
+use Rattle.ats_trace.specs.Run.{IsIdeal, releases_of}
 use Rattle.ats_trace.specs.Talker.{talker_of, KeepsBuckets}
 use Rattle.ats_trace.specs.declared.journey.Release.{Release}
 use Rattle.ats_trace.specs.declared.run.TheConstants.{MAX_FRAMES}
@@ -47,7 +47,7 @@ IsBusy x = (x.eligible ≡ x.start) × (x.start ≡ x.frame * frame_ps + 2172000
 -- are released one frame time apart, the talker keeps its bucket; and they may be more than may be run
 pub record SteadyIsLegal : Type 0 where
   pub network : IsNetwork steady_line
-  pub legal : (gap n : ℕ) → gap ≤ frame_ps → IsLegal steady_line (steady_from gap 0 n)
+  pub legal : (gap n : ℕ) → gap ≤ frame_ps → IsIdeal steady_line (steady_from gap 0 n)
   pub long : (gap n : ℕ) → length (steady_from gap 0 n) ≡ n
   pub busy : (gap n : ℕ) → All IsBusy (sent_by steady_line (steady_from gap 0 n) 2)
   pub at_once : (n : ℕ) → All (λ (r : Release). r.at.0 ≡ 0) (releases_of (steady_from 0 0 n))

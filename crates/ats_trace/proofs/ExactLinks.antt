@@ -24,7 +24,7 @@ use Rattle.ats_trace.specs.Projections.{Crossing, transmission_by, transmission_
 use Rattle.ats_trace.specs.Projections.{crossings_over}
 use Rattle.ats_trace.specs.Projections.{journey_crossings, crossings_from, crossings_by}
 use Rattle.ats_trace.specs.Links.{ArrivesWithin, KeepsLinkRule}
-use Rattle.ats_trace.specs.Run.{IsLegal}
+use Rattle.ats_trace.specs.Run.{IsIdeal}
 use Rattle.ats_trace.specs.ExactLinks.{HaveOneLatency, arrival_after, IsSentOrEndsAt, IsWayAt, IsEligibleAtRelease}
 use Rattle.ats_trace.specs.ExactLinks.{IsJourneyAt, IsJudgedAs, IsCopyAt}
 use Rattle.ats_trace.specs.ExactLinks.{IsLegalAt}
@@ -202,7 +202,7 @@ exact_journeys network net n (j ∷ run) all exact =
     (all_right Exact (journey_crossings network n j) (crossings_from network (n + 1) run) exact))
 
 all_exact : (network : DeclaredNetwork) (run : List Travel) → HaveOneLatency network.topology.ports
-    → IsLegal network run
+    → IsIdeal network run
     → All (IsExact network.topology.ports) (crossings_from network 0 run)
 all_exact network run exact legal k d h within =
     let crossings : List Crossing = crossings_from network 0 run in
@@ -215,7 +215,7 @@ all_exact network run exact legal k d h within =
 
 at_from_legal : (network : DeclaredNetwork) (run : List Travel) → IsNetwork network
     → HaveOneLatency network.topology.ports
-    → IsLegal network run
+    → IsIdeal network run
     → IsLegalAt network run
 at_from_legal network run net exact legal = record {
   in_order = legal.in_order;
@@ -414,7 +414,7 @@ exact_links network run one all port within =
     }
 
 legal_from_at : (network : DeclaredNetwork) (run : List Travel) → HaveOneLatency network.topology.ports
-    → IsLegalAt network run → IsLegal network run
+    → IsLegalAt network run → IsIdeal network run
 legal_from_at network run one legal = record {
   in_order = legal.in_order;
   journeys = λ k d h. form_journey network (get_or run k d) (legal.journeys k d h);

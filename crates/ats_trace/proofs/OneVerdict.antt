@@ -589,10 +589,10 @@ once_from network port frame n (j ∷ run) net all =
     ]
 
 pub one_verdict : OneVerdict
-one_verdict judge network run net legal = record {
+one_verdict network run net journeys = record {
   judged = λ journey has. one_verdict_of network journey net
-      (subst (IsJourney network) has.2 (legal.journeys has.0 journey has.1));
+      (subst (IsJourney network) has.2 (journeys has.0 journey has.1));
   sent = λ port frame. (
-      let once = once_from network port frame 0 run net legal.journeys in
+      let once = once_from network port frame 0 run net journeys in
       omega (arith, once, weighed port frame (hops_from network 0 run)));
 }

@@ -1,13 +1,13 @@
 use Rattle.std.proofs.Common.{List}
 use Rattle.ats_network.specs.Network.{DeclaredNetwork}
 use Rattle.ats_trace.specs.Journey.{Travel}
-use Rattle.ats_trace.specs.Run.{IsLegal}
+use Rattle.ats_trace.specs.Run.{IsIdeal}
 use Rattle.ats_trace.specs.Parts.{Part, in_order, octets, way, released, copies, links, waits, takes, apart, chosen}
 use Rattle.ats_trace.specs.Parts.{prompt, groups, flows, Keeps, LegalIsEachPart}
 
 -- the parts of a legal run
 
-part_of_legal : (network : DeclaredNetwork) (run : List Travel) → IsLegal network run → (part : Part)
+part_of_legal : (network : DeclaredNetwork) (run : List Travel) → IsIdeal network run → (part : Part)
     → Keeps part network run
 part_of_legal network run h in_order = h.in_order
 part_of_legal network run h octets = λ k d within. (h.journeys k d within).octets
@@ -24,7 +24,7 @@ part_of_legal network run h groups = h.groups
 part_of_legal network run h flows = h.flows
 
 legal_of_parts : (network : DeclaredNetwork) (run : List Travel) → ((part : Part) → Keeps part network run)
-    → IsLegal network run
+    → IsIdeal network run
 legal_of_parts network run keeps =
     record {
       in_order = keeps in_order;

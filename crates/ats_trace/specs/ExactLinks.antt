@@ -16,8 +16,8 @@ use Rattle.ats_group.specs.Judge.{ats_judge}
 use Rattle.ats_port_rule.specs.PortRule.{KeepsPortRule}
 use Rattle.ats_trace.specs.Journey.{Leg, Travel, legs_in, record_at, trunk_at}
 use Rattle.ats_trace.specs.Projections.{sent_by, handed_by}
-use Rattle.ats_trace.specs.Eligibility.{IsJudged, IsPassed, residence_of_groups}
-use Rattle.ats_trace.specs.Run.{IsLegal, releases_of}
+use Rattle.ats_trace.specs.Eligibility.{IsJudged, IsPassed}
+use Rattle.ats_trace.specs.Run.{IsIdeal, releases_of}
 use Rattle.ats_trace.specs.declared.journey.Release.{Release}
 use Rattle.ats_trace.specs.HopRecord.{HopRecord}
 use Rattle.ats_trace.specs.declared.journey.Ending.{Ending}
@@ -87,7 +87,7 @@ pub record IsLegalAt (network : DeclaredNetwork) (run : List Travel) : Type 0 wh
   pub ports : (port : ℕ) → port < length network.topology.ports
       → KeepsPortRule (port_at network.topology.ports port).ps_per_bit (sent_by network run port)
   pub groups : (port class : ℕ) → port < length network.topology.ports → 1 ≤ class
-      → IsJudged ats_judge network (residence_of_groups network port) (handed_by network run port class)
+      → IsJudged ats_judge network port (handed_by network run port class)
   pub flows : (port : ℕ) → port < length network.topology.ports → All (IsPassed network) (handed_by network run port 0)
 
 -- each port's earliest latency is its latency, as where each bridge takes one time to process a frame
@@ -98,4 +98,4 @@ HaveOneLatency ports = All (λ (port : Port). port.earliest ≡ port.latency) po
 abbrev pub LinksAreExact : Type 0
 LinksAreExact = (network : DeclaredNetwork) (run : List Travel) → IsNetwork network
     → HaveOneLatency network.topology.ports
-    → IsLegal network run ↔ IsLegalAt network run
+    → IsIdeal network run ↔ IsLegalAt network run

@@ -12,4 +12,5 @@ pub mod OneVerdict
 pub mod Stored
 pub mod Talker
 pub mod Parts
+pub mod Clocks
 pub mod OneListener

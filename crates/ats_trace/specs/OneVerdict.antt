@@ -1,16 +1,14 @@
 use Rattle.std.specs.Prelude.{◌≡◌, ℕ, ◌≤◌, ◌==◌, List, ◌∷◌, Option, Some, None, if◌then◌else◌, Contains}
-use Rattle.std.specs.Prelude.{count_by}
+use Rattle.std.specs.Prelude.{All, count_by}
 use Rattle.std.specs.Option.{option_or, option_map}
 use Rattle.ats_num.specs.declared.time.Ps.{Ps}
 use Rattle.ats_topology.specs.Port.{port_at}
 use Rattle.ats_network.specs.Network.{DeclaredNetwork, IsNetwork}
 use Rattle.ats_network.specs.Senders.{sender_at}
-use Rattle.ats_group.specs.Judge.{Judge}
 use Rattle.ats_group.specs.declared.verdict.Verdict.{Verdict}
 use Rattle.ats_port_rule.specs.Transmission.{Transmission}
-use Rattle.ats_trace.specs.Journey.{Leg, Travel, legs_at, legs_in}
+use Rattle.ats_trace.specs.Journey.{IsJourney, Leg, Travel, legs_at, legs_in}
 use Rattle.ats_trace.specs.Projections.{sent_by}
-use Rattle.ats_trace.specs.Run.{IsLegalBy}
 use Rattle.ats_trace.specs.HopRecord.{HopRecord}
 
 -- A bridge judges a frame once, for all of its ports on which the stream goes on.
@@ -47,11 +45,12 @@ abbrev pub SendsOnce : DeclaredNetwork → List Travel → Type 0
 SendsOnce network run =
     (port frame : ℕ) → count_by (λ (x : Transmission). x.frame == frame) (sent_by network run port) ≤ 1
 
--- both hold in each legal run, however groups judge
+-- both hold of a run
 pub record OneVerdictIn (network : DeclaredNetwork) (run : List Travel) : Type 0 where
   pub judged : (journey : Travel) → Contains run journey → HasOneVerdict network journey
   pub sent : SendsOnce network run
 
+-- so it is where each frame makes a journey: in each legal run, by whatever clocks, and however groups judge
 abbrev pub OneVerdict : Type 0
-OneVerdict = (judge : Judge) (network : DeclaredNetwork) (run : List Travel) → IsNetwork network
-    → IsLegalBy judge network run → OneVerdictIn network run
+OneVerdict = (network : DeclaredNetwork) (run : List Travel) → IsNetwork network → All (IsJourney network) run
+    → OneVerdictIn network run

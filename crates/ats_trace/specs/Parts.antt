@@ -10,12 +10,12 @@ use Rattle.ats_trace.specs.Journey.{Travel, IsWay, IsReleased, AreCopies, trunk_
 use Rattle.ats_trace.specs.Projections.{sent_by, crossings_by, handed_by}
 use Rattle.ats_trace.specs.Links.{KeepsLinkRule}
 use Rattle.ats_group.specs.Judge.{ats_judge}
-use Rattle.ats_trace.specs.Eligibility.{IsJudged, IsPassed, residence_of_groups}
-use Rattle.ats_trace.specs.Run.{releases_of, IsLegal}
+use Rattle.ats_trace.specs.Eligibility.{IsJudged, IsPassed}
+use Rattle.ats_trace.specs.Run.{releases_of, IsIdeal}
 use Rattle.ats_trace.specs.declared.journey.Release.{Release}
 
--- the parts of a legal run, where those of a journey and of the port rule count by themselves; that the sender exists
--- follows from the way and the release, and counts with the way
+-- the parts of a run by true time, where those of a journey and of the port rule count by themselves; that the sender
+-- exists follows from the way and the release, and counts with the way
 pub data Part : Type 0 where
   in_order : Part
   octets : Part
@@ -60,12 +60,12 @@ Keeps prompt network run =
     (λ (y : Transmission). StartsAfterGap sent x → x.start ≤ y.start → x.start ≤ y.eligible) sent) sent) network run
 Keeps groups network run =
     (port class : ℕ) → port < length network.topology.ports → 1 ≤ class
-    → IsJudged ats_judge network (residence_of_groups network port) (handed_by network run port class)
+    → IsJudged ats_judge network port (handed_by network run port class)
 Keeps flows network run = (port : ℕ) → port < length network.topology.ports
     → All (IsPassed network) (handed_by network run port 0)
 
--- a run is legal exactly where it keeps each part
+-- a run is one by true time exactly where it keeps each part
 abbrev pub LegalIsEachPart : Type 0
 LegalIsEachPart = (network : DeclaredNetwork) (run : List Travel)
-    → (IsLegal network run → (part : Part) → Keeps part network run)
-    × (((part : Part) → Keeps part network run) → IsLegal network run)
+    → (IsIdeal network run → (part : Part) → Keeps part network run)
+    × (((part : Part) → Keeps part network run) → IsIdeal network run)

@@ -46,3 +46,8 @@ pub record KeepsBucketsBy (rule : Declared → List Frame → Type 0) (network :
 -- a node keeps its buckets
 abbrev pub KeepsBuckets : DeclaredNetwork → List Release → ℕ → Type 0
 KeepsBuckets network releases node = KeepsBucketsBy bucket_rule network releases node
+
+-- releases at the times that a clock shows
+abbrev pub read_by : (ℕ → ℕ) → List Release → List Release
+read_by shows releases =
+    map (λ (r : Release). record r { at = record { 0 = shows r.at.0 } }) releases

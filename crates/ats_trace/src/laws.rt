@@ -5,7 +5,7 @@ ghost use Rattle.ats_trace.specs.OneListener.{NoCopyNoBranch, OneListenerHasOneL
 ghost use Rattle.ats_trace.specs.OneVerdict.{OneVerdict};
 ghost use Rattle.ats_trace.specs.Parts.{LegalIsEachPart};
 
-/// A run is legal exactly where it keeps each of the parts that are listed.
+/// A run is one in which all nodes read true time exactly where it keeps each of the parts that are listed.
 pub fn legal_is_each_part()
     ensures { LegalIsEachPart }
 {}
@@ -17,9 +17,9 @@ pub fn links_are_exact()
     ensures { LinksAreExact }
 {}
 
-/// In each legal run, of the ports of a stream that leave one node, either all have a record of a frame or none has,
-/// with one arrival and one verdict: a bridge judges a frame once, for all of its ports on which the stream goes on.
-/// And a frame is sent at most once at each port, however many listeners are behind it.
+/// Where each frame makes a journey, as in each legal run, of the ports of a stream that leave one node, either all
+/// have a record of a frame or none has, with one arrival and one verdict: a bridge judges a frame once, for all ports
+/// on which the stream goes on. And a frame is sent at most once at each port, however many listeners are behind it.
 pub fn one_verdict()
     ensures { OneVerdict }
 {}

@@ -1,5 +1,5 @@
-use Rattle.ats_soundness_law.proofs.Soundness as soundness
+use Rattle.ats_soundness_law.proofs.TrueTime.{stations_promise_all}
 use Rattle.ats_soundness_law.proofs.laws.stations_promise_all.Goals as goal
 
 pub returns : goal.returns
-returns g c = soundness.stations_promise_all g.R.TalkerRule.kept
+returns g c = stations_promise_all g.R.TalkerRule.kept
