@@ -7,6 +7,7 @@ use Rattle.std.proofs.lemmas.Bool.{eqb-true}
 use Rattle.std.proofs.lemmas.List.Folds.{list_any_at, list_any_none}
 use Rattle.std.proofs.lemmas.Option.{same_Some, none-some}
 use Rattle.ats_topology.proofs.PositionLemmas.{IsFound, found, all_fail}
+use Rattle.ats_topology.specs.Topology.{DeclaredTopology}
 use Rattle.ats_network.specs.Sender.{Sender}
 use Rattle.ats_network.specs.Class.{class_along, class_at, seen_at}
 use Rattle.ats_tally.specs.Tally.{tally_with}
@@ -75,15 +76,15 @@ pub no_user : (port class : ℕ) (s : Sender) → position_from (λ p. eqb p por
     → is_user port class s ≡ false
 no_user port class s none = ap (λ (b : Bool). b && eqb (class_at s port) class) (no_hop port s.ports none)
 
-pub more_at : (port class : ℕ) (s : Sender) (tally : Tally) (hop : ℕ)
+pub more_at : (topology : DeclaredTopology) (port class : ℕ) (s : Sender) (tally : Tally) (hop : ℕ)
     → position_from (λ p. eqb p port) 0 s.ports ≡ Some hop
-    → with_user port class s tally ≡ tally_with class (seen_at (get_or s.ports hop 0) s) tally
-more_at port class s tally hop at =
+    → with_user topology port class s tally ≡ tally_with class (seen_at topology (get_or s.ports hop 0) s) tally
+more_at topology port class s tally hop at =
     let h : IsHop port s.ports hop = hop_is port s.ports hop at in
-    ap (λ (b : Bool). cond b (tally_with class (seen_at port s) tally) tally) h.uses
-    ∙ ap (λ (n : ℕ). tally_with class (seen_at n s) tally) (sym h.is)
+    ap (λ (b : Bool). cond b (tally_with class (seen_at topology port s) tally) tally) h.uses
+    ∙ ap (λ (n : ℕ). tally_with class (seen_at topology n s) tally) (sym h.is)
 
-pub no_more : (port class : ℕ) (s : Sender) (tally : Tally) → position_from (λ p. eqb p port) 0 s.ports ≡ None
-    → with_user port class s tally ≡ tally
-no_more port class s tally none =
-    ap (λ (b : Bool). cond b (tally_with class (seen_at port s) tally) tally) (no_hop port s.ports none)
+pub no_more : (topology : DeclaredTopology) (port class : ℕ) (s : Sender) (tally : Tally)
+    → position_from (λ p. eqb p port) 0 s.ports ≡ None → with_user topology port class s tally ≡ tally
+no_more topology port class s tally none =
+    ap (λ (b : Bool). cond b (tally_with class (seen_at topology port s) tally) tally) (no_hop port s.ports none)

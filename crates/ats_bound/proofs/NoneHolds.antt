@@ -18,6 +18,7 @@ use Rattle.ats_certificate.specs.Certificate.{Holds, RowHolds, MayStay, IsInTime
 use Rattle.ats_certificate.specs.Certificate.{bound_of_hop}
 use Rattle.ats_certificate.specs.declared.row.Row.{Row}
 use Rattle.ats_bound.specs.Least.{least_row, least_certificate}
+use Rattle.ats_tally.proofs.NeedParts.{need_grows}
 use Rattle.ats_tally.specs.Reason.{first_some, overstay, row_need, late}
 use Rattle.ats_bound.specs.Reason.{reason_of, overload}
 use Rattle.ats_bound.specs.Laws.{ReasonLeavesNone}
@@ -91,7 +92,8 @@ stays_held network rows port class is h used ns residence =
     least_wait-le network r.row (place_is network r.row port class is r.port_is r.class_is used) r.holds.covers in
     let same = ap (λ (row : Row). row.wait) (least_at network r.row port class r.port_is r.class_is) in
     let stay = subst (λ (n : ℕ). MayStay network n r.row.wait) r.port_is r.holds.residence in
-    omega (arith, le, same, stay ns residence)
+    let grows = need_grows network port (least_row network (port, class)).wait r.row.wait (omega (arith, le, same)) in
+    omega (arith, grows, stay ns residence)
 
 -- a row of the least certificate is that of a place that is used
 pub record IsLeastOf (network : DeclaredNetwork) (row : Row) : Type 0 where

@@ -28,7 +28,8 @@ work port sums = PS_PER_SECOND * (port.ps_per_bit * (sums.lower + sums.bursts - 
 pub remains : (network : DeclaredNetwork) (port class : ℕ) → IsPlace network port class → Fits network port class
     → 1 ≤ PS_PER_SECOND - (port_sums network port class).higher
 remains network port class at fits =
-    let rate : ℕ = sum_where (is_of class) (λ (s : PortSender). s.rate) (senders_at port (senders_of network)) in
+    let rate : ℕ = sum_where (is_of class) (λ (s : PortSender). s.rate)
+    (senders_at network.topology port (senders_of network)) in
     let ps : ℕ = (port_at network.topology.ports port).ps_per_bit in
     let some : ps * 1 ≤ ps * rate = mul-le-mul_left ps at.rate in
     omega (arith, some, at.is_port.rate.least, fits)

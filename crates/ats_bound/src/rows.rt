@@ -70,7 +70,7 @@ fn hop_of(path: &[u32], port: u32) -> Option<usize>
 /// The row of a port and a class, from what the senders at the port make of the class.
 pub fn row_of(network: &Network, port: u32, class: u8, tally: Tally) -> Result<Row, u128>
     requires used { IsTrue (is_used network.now port class) }
-    requires tally { IsTally class (senders_at port (senders_of network.now)) tally }
+    requires tally { IsTally class (senders_at network.now.topology port (senders_of network.now)) tally }
     ensures row { result ≡ row_or_load network.now (port, class) }
     ensures form { IfOk result IsRow }
 {
@@ -81,7 +81,7 @@ pub fn row_of(network: &Network, port: u32, class: u8, tally: Tally) -> Result<R
 // What the senders at a port make of a class.
 fn tally_at(network: &Network, port: u32, class: u8) -> Tally
     requires { IsTrue (is_used network.now port class) }
-    ensures { IsTally class (senders_at port (senders_of network.now)) result }
+    ensures { IsTally class (senders_at network.now.topology port (senders_of network.now)) result }
 {
     let mut tally = Tally::new();
     for sender in 0..network.senders() {
@@ -94,7 +94,7 @@ fn tally_at(network: &Network, port: u32, class: u8) -> Tally
 fn with_user(tally: Tally, network: &Network, sender: u32, port: u32, class: u8) -> Tally
     requires sender { sender < length (senders_of network.now) }
     requires room { IsWithin MAX_SENDERS tally }
-    ensures { result ≡ with_user port class (sender_at network.now sender) tally }
+    ensures { result ≡ with_user network.now.topology port class (sender_at network.now sender) tally }
 {
     match hop_of(network.sender_ports(sender), port) {
         Some(hop) => tally.with_sender(class, &SeenSender::at(network, sender, hop as u32)),

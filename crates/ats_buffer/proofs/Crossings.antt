@@ -18,7 +18,7 @@ use Rattle.ats_port_rule.specs.Transmission.{Transmission}
 use Rattle.ats_trace.specs.Journey.{Leg, Travel, IsJourney, legs_in}
 use Rattle.ats_trace.specs.Projections.{Crossing, transmission_by, transmission_of, crossing_of, crossing_at}
 use Rattle.ats_trace.specs.Projections.{crossings_along, crossings_over, journey_crossings, crossings_from}
-use Rattle.ats_trace.specs.Run.{IsLegal}
+use Rattle.ats_trace.specs.Run.{IsIdeal}
 use Rattle.ats_trace.specs.declared.journey.Release.{Release}
 use Rattle.ats_trace.specs.HopRecord.{HopRecord}
 use Rattle.ats_trace.specs.declared.journey.Ending.{Ending}
@@ -195,13 +195,13 @@ few_moments (c ∷ xs) =
     omega (arith, here, few_moments xs, length-append (moments_of c) (flat_map moments_of xs))
 
 -- so are those of a legal run
-pub moments_inside : (network : DeclaredNetwork) (run : List Travel) → IsNetwork network → IsLegal network run
+pub moments_inside : (network : DeclaredNetwork) (run : List Travel) → IsNetwork network → IsIdeal network run
     → All (IsInside (length network.topology.ports)) (moments_in network run)
 moments_inside network run net legal =
     all_inside (length network.topology.ports) (crossings_from network 0 run)
     (crossed_from network net 0 run legal.journeys)
 
-pub moments_few : (network : DeclaredNetwork) (run : List Travel) → IsNetwork network → IsLegal network run
+pub moments_few : (network : DeclaredNetwork) (run : List Travel) → IsNetwork network → IsIdeal network run
     → length (moments_in network run) ≤ 131072 * length run
 moments_few network run net legal =
     omega (arith, few_moments (crossings_from network 0 run), few_from network net 0 run legal.journeys)

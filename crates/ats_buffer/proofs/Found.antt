@@ -8,10 +8,11 @@ use Rattle.std.proofs.Math.Nat.{mul-le-mul_right}
 use Rattle.std.proofs.lemmas.Bool.{cases_Bool, cases_lt, and_parts, eqb-true}
 use Rattle.std.proofs.lemmas.Option.{same_Some}
 use Rattle.std.proofs.lemmas.List.{get_or_default, get_or_past, length-take}
-use Rattle.std.proofs.lemmas.List.Elements.{All-head, All-tail, All-map, All-filter, All-take, All-weaker}
+use Rattle.std.proofs.lemmas.List.Elements.{All-from_get_or, All-head, All-tail, All-map, All-filter, All-take}
 use Rattle.std.proofs.lemmas.List.Elements.{filter_passes}
 use Rattle.std.proofs.lemmas.List.Sums.{get_or-le-sum_by, sum_by-append, sum_by-le, length-filter, count_by-le-length}
 use Rattle.ats_num.specs.declared.time.TheConstants.{PS_PER_NS, PS_PER_SECOND}
+use Rattle.ats_clock.specs.declared.committed.Committed.{Committed}
 use Rattle.ats_topology.specs.Port.{port_at, no_port, spread_of}
 use Rattle.ats_topology.proofs.Rules.{ports_are_lawful}
 use Rattle.ats_streams.specs.Branches.{AreBranches, leads_of, leg_at, legs_of, routes_of}
@@ -19,15 +20,20 @@ use Rattle.ats_streams.specs.Stream.{DeclaredStream, IsStream}
 use Rattle.ats_streams.proofs.BranchLemmas.{legs-length, route-at, routes-length}
 use Rattle.ats_network.specs.Sender.{Sender, stream_sender}
 use Rattle.ats_network.specs.Class.{PortSender, class_at, seen_at, port_before}
+use Rattle.ats_network.specs.Edits.{no_stream}
 use Rattle.ats_network.specs.Network.{DeclaredNetwork, IsNetwork}
+use Rattle.ats_network.specs.Rates.{IsRated, committed_at}
+use Rattle.ats_network.proofs.ClassLemmas.{class_along-has}
 use Rattle.ats_certificate.specs.PortSums.{uses, is_of, senders_at, is_used}
 use Rattle.ats_certificate.specs.Certificate.{is_row_of, row_of, bound_at, bound_of_hop, IsInTime, RowHolds, Holds}
 use Rattle.ats_certificate.specs.Form.{IsRow, AreRows}
 use Rattle.ats_certificate.specs.declared.row.Row.{Row}
 use Rattle.ats_tally.proofs.Lists.{any_gives}
 use Rattle.ats_trace.proofs.Legs.{Stands, concat-legs_of, place_is, stands}
-use Rattle.ats_buffer.specs.Buffer.{of_row, stay_of, stay_at, way_behind, way_by, window_at, has_class}
+use Rattle.ats_buffer.specs.Buffer.{counted_at, of_row, stay_of, stay_at, way_behind, way_by, window_at, has_class}
 use Rattle.ats_buffer.specs.Buffer.{share_at, shares_at}
+use Rattle.ats_buffer.proofs.Rated.{stream_rated}
+use Rattle.ats_buffer.proofs.ShareLemmas.{stream_at}
 
 -- no row is found, or one is: that of the port and class, and what holds of all rows holds of it
 pub data IsFound (P : Row → Type 0) (rows : List Row) (port class : ℕ) : Type 0 where
@@ -113,15 +119,15 @@ bound-most network rows net holds port class used =
     let Within : PortSender → Type 0 = λ (s : PortSender). is_of class s ≡ true
     → bound_at rows port class ≤ PS_PER_SECOND in
     let streams : List Sender = map stream_sender network.streams in
-    let BySender : Sender → Type 0 = λ (s : Sender). uses port s ≡ true → Within (seen_at port s) in
+    let BySender : Sender → Type 0 = λ (s : Sender). uses port s ≡ true → Within (seen_at network.topology port s) in
     let each : All BySender streams = All-map BySender stream_sender network.streams
     (λ k d h on of. (
     let s : DeclaredStream = get_or network.streams k d in
     let ranked = ap (bound_at rows port) (eqb-true (class_at (stream_sender s) port) class of) in
     let is : IsStream s = net.streams k d h in
     omega (arith, ranked, used_bound rows s port is.branches (holds.deadlines k d h) on, is.deadline.most))) in
-    any_gives (is_of class) (bound_at rows port class ≤ PS_PER_SECOND) (senders_at port streams)
-    (All-map Within (seen_at port) (filter (uses port) streams)
+    any_gives (is_of class) (bound_at rows port class ≤ PS_PER_SECOND) (senders_at network.topology port streams)
+    (All-map Within (seen_at network.topology port) (filter (uses port) streams)
     (λ k d h. All-filter (uses port) BySender streams each k d h (filter_passes (uses port) streams k d h))) used
 
 -- so a stay and a wait by a certificate that holds
@@ -186,26 +192,37 @@ way_behind-most network rows net holds s (Some q) = way-most network rows net ho
 
 -- and what a stream may have
 pub share-most : (network : DeclaredNetwork) (rows : List Row) → IsNetwork network → Holds network rows
-    → (port class : ℕ) (s : DeclaredStream) → IsStream s → share_at network rows port class s ≤ 400000000000
-share-most network rows net holds port class s is =
-    let window : ℕ = window_at network rows port class (stream_sender s) in
+    → (port class n : ℕ) → n < length network.streams → 1 ≤ class
+    → has_class port class (stream_at network n) ≡ true
+    → share_at network rows port class (stream_at network n) ≤ 400000000000
+share-most network rows net holds port class n h least has =
+    let stream : DeclaredStream = stream_at network n in
+    let s : Sender = stream_sender stream in
+    let seen : Committed = committed_at network.topology (counted_at s port) s in
+    let window : ℕ = window_at network rows port class s in
     let short : window ≤ 3 * PS_PER_SECOND =
     (let stay = stay-most network rows net holds port class in
-    let way = way_behind-most network rows net holds (stream_sender s) (port_before (stream_sender s) port) in
+    let way = way_behind-most network rows net holds s (port_before s port) in
     omega (arith, stay, way)) in
-    let rates : s.rate * window ≤ 100000000000 * window = mul-le-mul_right window is.rules.rate.within in
-    omega (arith, short, rates, is.rules.burst)
+    let rated : IsRated network.topology s (counted_at s port) =
+    stream_rated network n port net h (class_along-has port stream.ports stream.classes
+    (omega (arith, least, eqb-true (class_at s port) class has))) in
+    let rates : seen.rate * window ≤ 100000000000 * window = mul-le-mul_right window rated.seen.rate.within in
+    omega (arith, short, rates, rated.seen.burst)
 
 pub shares-most : (network : DeclaredNetwork) (rows : List Row) → IsNetwork network → Holds network rows
-    → (port class n : ℕ)
+    → (port class n : ℕ) → 1 ≤ class
     → shares_at network rows port class (take n network.streams) ≤ 4096 * 400000000000
-shares-most network rows net holds port class n =
+shares-most network rows net holds port class n least =
     let first : List DeclaredStream = take n network.streams in
     let chosen : List DeclaredStream = filter (has_class port class) first in
-    let each : All (λ (s : DeclaredStream). share_at network rows port class s ≤ 400000000000) chosen =
-    All-filter (has_class port class) (λ (s : DeclaredStream). share_at network rows port class s ≤ 400000000000) first
-    (All-weaker IsStream (λ (s : DeclaredStream). share_at network rows port class s ≤ 400000000000)
-    (share-most network rows net holds port class) first (All-take IsStream n network.streams net.streams)) in
+    let Small : DeclaredStream → Type 0 = λ (s : DeclaredStream). share_at network rows port class s ≤ 400000000000 in
+    let Chosen : DeclaredStream → Type 0 = λ (s : DeclaredStream). has_class port class s ≡ true → Small s in
+    let all : All Chosen network.streams = All-from_get_or Chosen network.streams no_stream
+    (λ k h. share-most network rows net holds port class k h least) in
+    let each : All Small chosen =
+    λ k d h. All-filter (has_class port class) Chosen first (All-take Chosen n network.streams all) k d h
+    (filter_passes (has_class port class) first k d h) in
     let total = sum_by-le (share_at network rows port class) 400000000000 chosen each in
     let fewer : length chosen ≤ 4096 = omega (
       arith,

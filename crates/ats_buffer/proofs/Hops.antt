@@ -1,6 +1,7 @@
 -- The hops of a stream, leg by leg: its ports and classes there, and what the ways to them are.
 use Rattle.std.proofs.Common.{◌≡◌, ℕ, zero, suc, ◌+◌, ◌-◌, ◌<◌, ◌≤◌, List, [], ◌∷◌, ◌++◌, length, get_or, map, take}
-use Rattle.std.proofs.Common.{Some, eqb, refl, sym, ap, ◌∙◌, subst, add-one, arith, length-append}
+use Rattle.std.proofs.Common.{Some, None, eqb, refl, sym, ap, ◌∙◌, subst, add-one, arith, length-append}
+use Rattle.std.specs.Prelude.{Option, unwrap_or}
 use Rattle.std.specs.List.{concat}
 use Rattle.std.proofs.Math.Seq.{take-append-add}
 use Rattle.std.proofs.lemmas.List.{get_or-map, get_or_append_left, get_or_default, length-map, take_all}
@@ -8,6 +9,8 @@ use Rattle.std.proofs.lemmas.List.Folds.{list_any_at}
 use Rattle.std.proofs.lemmas.Bool.{eq-eqb}
 use Rattle.std.proofs.lemmas.Option.{same_Some}
 use Rattle.ats_class_table.specs.Table.{Sets, Table, value_at}
+use Rattle.ats_clock.specs.declared.committed.Committed.{Committed}
+use Rattle.ats_topology.specs.Topology.{DeclaredTopology}
 use Rattle.ats_streams.specs.Branches.{BeginsEarlier, leg_at, no_branch}
 use Rattle.ats_streams.specs.Stream.{DeclaredStream}
 use Rattle.ats_streams.specs.declared.branch.Branch.{Branch}
@@ -16,6 +19,7 @@ use Rattle.ats_network.specs.Sender.{Sender, stream_sender, flow_sender}
 use Rattle.ats_network.specs.Class.{class_at, port_before}
 use Rattle.ats_network.specs.Network.{DeclaredNetwork, IsNetwork, senders_of}
 use Rattle.ats_network.specs.Edits.{no_stream}
+use Rattle.ats_network.specs.Rates.{committed_at}
 use Rattle.ats_network.specs.Senders.{IsSender, sender_at, no_sender}
 use Rattle.ats_network.proofs.ClassLemmas.{class_at-stream}
 use Rattle.ats_network.proofs.SenderLemmas.{sender_keeps}
@@ -25,7 +29,8 @@ use Rattle.ats_trace.proofs.Legs.{concat-legs_of, place_first, place_is, place_n
 use Rattle.ats_route_law.specs.Laws.{before_hop, in_front_of, port_to, ports_of_leg}
 use Rattle.ats_route_law.proofs.Before.{port_before_is_one}
 use Rattle.ats_tally.proofs.Paths.{paths_apart}
-use Rattle.ats_buffer.specs.Buffer.{most_bits, stay_at, way_by, way_over, way_behind, way_to, share_at, shares_at}
+use Rattle.ats_buffer.specs.Buffer.{counted_at, most_bits, stay_at, way_by, way_over, way_behind, way_to}
+use Rattle.ats_buffer.specs.Buffer.{share_at, shares_at}
 use Rattle.ats_buffer.specs.Sums.{AreAdding}
 use Rattle.ats_buffer.proofs.ShareLemmas.{adding_more, before_port, stream_at}
 
@@ -179,7 +184,39 @@ hop_is network n leg hop items class net h within are below class_is =
       most = omega (arith, ranked, of_class.most);
     }
 
--- the way to a port is that over the one in front of its hop
+-- the port before is the one in front of its hop
+pub before_there : (network : DeclaredNetwork) (n leg hop port class : ℕ) (before : Option ℕ) → IsNetwork network
+    → n < length network.streams → leg ≤ length (sender_at network n).branches → IsHop network n leg hop port class
+    → before ≡ in_front_of (sender_at network n) leg hop
+    → before ≡ port_before (stream_sender (stream_at network n)) port
+before_there network n leg hop port class before net h within at is =
+    let s : Sender = sender_at network n in
+    is ∙ sym (port_before_is_one network.topology s leg hop (stream_keeps network n net h) within at.in_leg)
+    ∙ ap (port_before s) at.own ∙ ap (λ (x : Sender). port_before x port) (stream_is network n h)
+
+-- so the port at which the frames are counted is known
+pub counted_there : (network : DeclaredNetwork) (n leg hop port class : ℕ) (before : Option ℕ) (counted : ℕ)
+    → IsNetwork network → n < length network.streams → leg ≤ length (sender_at network n).branches
+    → IsHop network n leg hop port class → before ≡ in_front_of (sender_at network n) leg hop
+    → counted ≡ unwrap_or before port → counted ≡ counted_at (stream_sender (stream_at network n)) port
+counted_there network n leg hop port class before counted net h within at is counted_is =
+    counted_is ∙ ap (λ (o : Option ℕ). unwrap_or o port) (before_there network n leg hop port class before net h within
+    at is)
+
+-- and what is read is what that port sees of the stream
+pub seen_there : (network : DeclaredNetwork) (n port : ℕ) (topology : DeclaredTopology) (declared : DeclaredStream)
+    (counted : ℕ) (seen : Committed) → topology ≡ network.topology → declared ≡ stream_at network n
+    → counted ≡ counted_at (stream_sender (stream_at network n)) port
+    → seen ≡ committed_at topology counted (stream_sender declared)
+    → seen ≡ committed_at network.topology (counted_at (stream_sender (stream_at network n)) port)
+    (stream_sender (stream_at network n))
+seen_there network n port topology declared counted seen same_topology same counted_is seen_is =
+    seen_is
+    ∙ ap (λ (t : DeclaredTopology). committed_at t counted (stream_sender declared)) same_topology
+    ∙ ap (λ (x : DeclaredStream). committed_at network.topology counted (stream_sender x)) same
+    ∙ ap (λ (p : ℕ). committed_at network.topology p (stream_sender (stream_at network n))) counted_is
+
+-- the way to a port is that over the port before
 pub way_there : (network : DeclaredNetwork) (rows : List Row) (n leg hop port class way : ℕ) → IsNetwork network
     → n < length network.streams → leg ≤ length (sender_at network n).branches → IsHop network n leg hop port class
     → way ≡ way_behind network rows (sender_at network n) (in_front_of (sender_at network n) leg hop)
@@ -188,11 +225,17 @@ way_there network rows n leg hop port class way net h within at is =
     let s : Sender = sender_at network n in
     is
     ∙ ap (way_behind network rows s)
-    (sym (port_before_is_one network.topology s leg hop (stream_keeps network n net h) within at.in_leg)
-    ∙ ap (port_before s) at.own)
-    ∙ ap (λ (x : Sender). way_to network rows x port) (stream_is network n h)
+    (before_there network n leg hop port class (in_front_of s leg hop) net h within at refl)
+    ∙ ap (λ (x : Sender). way_behind network rows x (port_before (stream_sender (stream_at network n)) port))
+    (stream_is network n h)
 
--- at the next hop it is that over this one's port
+-- at the next hop it is this one's port
+pub before_next : (network : DeclaredNetwork) (n leg hop port class : ℕ) → IsHop network n leg hop port class
+    → Some port ≡ in_front_of (sender_at network n) leg (hop + 1)
+before_next network n leg hop port class at =
+    ap (λ (p : ℕ). Some p) (sym at.own) ∙ ap (in_front_of (sender_at network n) leg) (sym (add-one hop))
+
+-- and the way is that over it
 pub way_next : (network : DeclaredNetwork) (rows : List Row) (n leg hop port class way : ℕ)
     → n < length network.streams → IsHop network n leg hop port class → way ≡ way_by network rows port class
     → way ≡ way_behind network rows (sender_at network n) (in_front_of (sender_at network n) leg (hop + 1))
@@ -220,18 +263,18 @@ front_of_branch s (suc n) later =
     ap (λ (k : ℕ). port_to s (get_or s.branches k no_branch)) same
 
 -- to the talker nothing leads
-pub none_leads_there : (network : DeclaredNetwork) (rows : List Row) (streams : List DeclaredStream) (n leg : ℕ)
+pub none_leads_there : (network : DeclaredNetwork) (streams : List DeclaredStream) (n leg : ℕ)
     (stream : DeclaredStream) (b : Branch) → streams ≡ network.streams → n < length network.streams
     → stream ≡ get_or streams n stream → 1 ≤ leg → b ≡ get_or stream.branches (leg - 1) no_branch → b.hop ≡ 0
-    → 0 ≡ way_behind network rows (sender_at network n) (in_front_of (sender_at network n) leg 0)
-none_leads_there network rows streams n leg stream b same h read later is first =
+    → None ≡ in_front_of (sender_at network n) leg 0
+none_leads_there network streams n leg stream b same h read later is first =
     let s : Sender = sender_at network n in
     let there : b ≡ get_or s.branches (leg - 1) no_branch =
     is ∙ ap (λ (x : DeclaredStream). get_or x.branches (leg - 1) no_branch)
     (same_stream network streams n stream same h read)
     ∙ ap (λ (x : Sender). get_or x.branches (leg - 1) no_branch) (sym (stream_is network n h)) in
-    sym (ap (way_behind network rows s) (front_of_branch s leg later ∙ ap (port_to s) (sym there)
-    ∙ ap (before_hop (ports_of_leg s b.leg)) first))
+    sym (front_of_branch s leg later ∙ ap (port_to s) (sym there)
+    ∙ ap (before_hop (ports_of_leg s b.leg)) first)
 
 -- the hop of this port
 pub record LeadsThere (network : DeclaredNetwork) (n leg : ℕ) (b : Branch) : Type 0 where
@@ -271,7 +314,14 @@ leads_by network streams n leg stream b net same h read later within is behind =
     (is ∙ ap (λ (s : DeclaredStream). get_or s.branches (leg - 1) no_branch)
     (same_stream network streams n stream same h read)) behind
 
--- so the way over this port is that to the leg
+-- so this port is in front of the leg
+pub front_is : (network : DeclaredNetwork) (n leg : ℕ) (b : Branch) (items : List ℕ) (before : Option ℕ)
+    → LeadsThere network n leg b → items ≡ leg_at (legs_at network n) b.leg
+    → before ≡ Some (get_or items (b.hop - 1) 0) → before ≡ in_front_of (sender_at network n) leg 0
+front_is network n leg b items before leads are is =
+    is ∙ ap (λ (l : List ℕ). Some (get_or l (b.hop - 1) 0)) are ∙ sym leads.front
+
+-- and the way over it is that to the leg
 pub way_to_branch : (network : DeclaredNetwork) (rows : List Row) (n leg : ℕ) (b : Branch) (port class way : ℕ)
     → n < length network.streams → LeadsThere network n leg b → IsHop network n b.leg (b.hop - 1) port class
     → way ≡ way_by network rows port class
@@ -284,15 +334,19 @@ way_to_branch network rows n leg b port class way h leads at is =
     ∙ ap (way_behind network rows s) (sym leads.front)
 
 -- what the code adds at a hop is the stream's share there
-pub share_is : (network : DeclaredNetwork) (rows : List Row) (n port class : ℕ) (declared : DeclaredStream)
-    (stay way bits : ℕ) → declared ≡ stream_at network n → stay ≡ stay_at network rows port class
-    → way ≡ way_to network rows (stream_sender (stream_at network n)) port → bits ≡ most_bits declared (stay + way)
+pub share_is : (network : DeclaredNetwork) (rows : List Row) (n port class : ℕ) (seen : Committed)
+    (stay way bits : ℕ)
+    → seen ≡ committed_at network.topology (counted_at (stream_sender (stream_at network n)) port)
+    (stream_sender (stream_at network n))
+    → stay ≡ stay_at network rows port class
+    → way ≡ way_to network rows (stream_sender (stream_at network n)) port → bits ≡ most_bits seen (stay + way)
     → bits ≡ share_at network rows port class (stream_at network n)
-share_is network rows n port class declared stay way bits same stay_is way_is bits_are =
-    let s : DeclaredStream = stream_at network n in
-    bits_are ∙ ap (λ (t : DeclaredStream). most_bits t (stay + way)) same
-    ∙ ap (λ (k : ℕ). most_bits s (k + way)) stay_is
-    ∙ ap (λ (k : ℕ). most_bits s (stay_at network rows port class + k)) way_is
+share_is network rows n port class seen stay way bits seen_is stay_is way_is bits_are =
+    let s : Sender = stream_sender (stream_at network n) in
+    let c : Committed = committed_at network.topology (counted_at s port) s in
+    bits_are ∙ ap (λ (t : Committed). most_bits t (stay + way)) seen_is
+    ∙ ap (λ (k : ℕ). most_bits c (k + way)) stay_is
+    ∙ ap (λ (k : ℕ). most_bits c (stay_at network rows port class + k)) way_is
 
 -- what the table has there
 pub sum_is : (network : DeclaredNetwork) (rows : List Row) (n leg hop port class : ℕ) (table : Table ℕ) (sum : ℕ)

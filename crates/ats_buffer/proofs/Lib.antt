@@ -6,6 +6,7 @@ pub mod LegHops
 pub mod LevelLemmas
 pub mod Occupied
 pub mod Peak
+pub mod Rated
 pub mod ShareLemmas
 pub mod Sums
 pub mod Visits

@@ -17,7 +17,7 @@ use Rattle.ats_group.specs.declared.verdict.Verdict.TheVariants.{Eligible, Late,
 use Rattle.ats_trace.specs.Journey.{Leg, Travel, IsJourney, IsSentOrEnds, IsWay, legs_at, legs_in, no_leg}
 use Rattle.ats_trace.specs.Projections.{transmission_by, transmission_of, crossing_at, crossings_along}
 use Rattle.ats_trace.specs.Projections.{crossings_over, journey_crossings, crossings_from}
-use Rattle.ats_trace.specs.Run.{IsLegal}
+use Rattle.ats_trace.specs.Run.{IsIdeal}
 use Rattle.ats_trace.specs.Stored.{leg_in, no_travel, travel_at, journey_of}
 use Rattle.ats_trace.specs.declared.journey.Journey.{Journey}
 use Rattle.ats_trace.specs.declared.journey.Release.{Release}
@@ -194,7 +194,7 @@ pub record IsLegOf (network : DeclaredNetwork) (run : List Travel) (frame leg : 
   pub journey : IsJourney network (travel_at run frame)
   pub in_legs : leg ≤ length (sender_at network (travel_at run frame).release.sender).branches
 
-pub leg_of_frame : (network : DeclaredNetwork) (run : List Travel) (frame leg : ℕ) → IsLegal network run
+pub leg_of_frame : (network : DeclaredNetwork) (run : List Travel) (frame leg : ℕ) → IsIdeal network run
     → frame < length run → leg < length (legs_in (travel_at run frame)) → IsLegOf network run frame leg
 leg_of_frame network run frame leg legal h within =
     let j : Travel = travel_at run frame in

@@ -1,12 +1,14 @@
 use Rattle.std.specs.Prelude.{ℕ, ◌+◌, ◌*◌, ◌/◌, Bool, ◌==◌, List, map, filter, sum_by, Option, unwrap_or}
 use Rattle.std.specs.Option.{option_map}
 use Rattle.ats_num.specs.declared.time.TheConstants.{PS_PER_SECOND}
+use Rattle.ats_clock.specs.declared.committed.Committed.{Committed}
 use Rattle.ats_topology.specs.Port.{port_at}
 use Rattle.ats_topology.specs.declared.port.Port.{Port}
 use Rattle.ats_streams.specs.Stream.{DeclaredStream}
 use Rattle.ats_network.specs.Sender.{Sender, stream_sender}
 use Rattle.ats_network.specs.Class.{class_at, port_before}
 use Rattle.ats_network.specs.Network.{DeclaredNetwork}
+use Rattle.ats_network.specs.Rates.{committed_at}
 use Rattle.ats_certificate.specs.Certificate.{row_of, residence_needed}
 use Rattle.ats_certificate.specs.declared.row.Row.{Row}
 
@@ -41,23 +43,33 @@ way_behind network rows sender before = unwrap_or (option_map (way_over network 
 abbrev pub way_to : DeclaredNetwork → List Row → Sender → ℕ → ℕ
 way_to network rows sender port = way_behind network rows sender (port_before sender port)
 
--- the frames of a sender that are together at a port, where it has this class, became eligible within this time at the
--- port before; or at this port, where there is none
+-- the port at which a sender's frames that are together at a port are counted: the one before, or this one where there
+-- is none
+abbrev pub counted_at : Sender → ℕ → ℕ
+counted_at sender port = unwrap_or (port_before sender port) port
+
+-- they became eligible there within this time, where the sender has this class at the port
 abbrev pub window_at : DeclaredNetwork → List Row → ℕ → ℕ → Sender → ℕ
 window_at network rows port class sender = stay_at network rows port class + way_to network rows sender port
 
--- the most bits of a stream that a window of time holds: its burst, and what its rate gives in that time, rounded down
-abbrev pub most_bits : DeclaredStream → ℕ → ℕ
-most_bits stream window = stream.burst_bits + stream.rate * window / PS_PER_SECOND
+-- the most bits of a window of time, of frames that conform to a rate and burst: the burst, and what the rate gives in
+-- that time, rounded down
+abbrev pub most_bits : Committed → ℕ → ℕ
+most_bits seen window = seen.burst_bits + seen.rate * window / PS_PER_SECOND
+
+-- what a sender may have at a port where it has this class
+abbrev pub share_of : DeclaredNetwork → List Row → ℕ → ℕ → Sender → ℕ
+share_of network rows port class sender =
+    most_bits (committed_at network.topology (counted_at sender port) sender)
+    (window_at network rows port class sender)
 
 -- the stream has this class at the port
 abbrev pub has_class : ℕ → ℕ → DeclaredStream → Bool
 has_class port class stream = class_at (stream_sender stream) port == class
 
--- what a stream may have at a port where it has this class
+-- what a stream may
 abbrev pub share_at : DeclaredNetwork → List Row → ℕ → ℕ → DeclaredStream → ℕ
-share_at network rows port class stream =
-    most_bits stream (window_at network rows port class (stream_sender stream))
+share_at network rows port class stream = share_of network rows port class (stream_sender stream)
 
 -- what those of these streams may have there together that have the class there
 abbrev pub shares_at : DeclaredNetwork → List Row → ℕ → ℕ → List DeclaredStream → ℕ

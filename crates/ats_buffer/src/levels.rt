@@ -1,7 +1,7 @@
 //! What ports hold of each class as the moments of a run pass, and the peaks.
 
 ghost use Rattle.std.specs.Prelude.{◌≡◌, ◌+◌, ◌^◌, ◌<◌, ◌≤◌, length, IfOk, All};
-ghost use Rattle.ats_trace.specs.Run.{IsLegal};
+ghost use Rattle.ats_trace.specs.Run.{IsIdeal};
 ghost use Rattle.ats_buffer.specs.Moments.{AreOrdered};
 ghost use Rattle.ats_buffer.specs.Levels.{AreLevels, IsNext, level_after};
 ghost use Rattle.ats_buffer.specs.Occupancy.{ArePeaks, HasPlace};
@@ -52,7 +52,7 @@ pub fn peaks(
     run: &Run,
     rows: &[Row],
 ) -> Result<Vec<u64>, AllocError>
-    requires legal { IsLegal network.now run.now }
+    requires legal { IsIdeal network.now run.now }
     requires places { All (HasPlace (length network.now.topology.ports)) rows.now }
     ensures { IfOk result (λ peaks. ArePeaks network.now run.now rows.now peaks.items) }
 {

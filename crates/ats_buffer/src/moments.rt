@@ -2,7 +2,7 @@
 
 ghost use Rattle.std.specs.Prelude.{◌≡◌, ◌<◌, ◌++◌, length, IfOk, OnOk};
 ghost use Rattle.ats_trace.specs.Journey.{legs_in};
-ghost use Rattle.ats_trace.specs.Run.{IsLegal};
+ghost use Rattle.ats_trace.specs.Run.{IsIdeal};
 ghost use Rattle.ats_trace.specs.Stored.{travel_at};
 ghost use Rattle.ats_buffer.specs.Moments.{AreByFrame, AreMomentsOf, AreReordered};
 ghost use Rattle.ats_buffer.specs.Moments.{moments_of_frame, moments_of_leg, moments_at};
@@ -50,7 +50,7 @@ pub fn moments_in_order(
     network: &Network,
     run: &Run,
 ) -> Result<Vec<Moment>, AllocError>
-    requires legal { IsLegal network.now run.now }
+    requires legal { IsIdeal network.now run.now }
     ensures { IfOk result (λ moments. AreMomentsOf network.now run.now moments.items) }
 {
     in_order(moments_by_frame(alloc, network, run)?)
@@ -66,7 +66,7 @@ fn in_order(mut moments: Vec<Moment>) -> Result<Vec<Moment>, AllocError>
 
 // The moments of a run, frame by frame.
 fn moments_by_frame(alloc: Global, network: &Network, run: &Run) -> Result<Vec<Moment>, AllocError>
-    requires legal { IsLegal network.now run.now }
+    requires legal { IsIdeal network.now run.now }
     ensures { IfOk result (λ moments. AreByFrame network.now run.now moments.items) }
 {
     let _topology = network.topology(); // for what a network keeps
@@ -84,7 +84,7 @@ fn push_frame(
     run: &Run,
     frame: u32,
 ) -> Result<(), AllocError>
-    requires legal { IsLegal network.now run.now }
+    requires legal { IsIdeal network.now run.now }
     requires frame { frame < length run.now }
     ensures { OnOk result (moments.new.items
         ≡ moments.old.items ++ moments_of_frame network.now frame (travel_at run.now frame)) }
@@ -103,7 +103,7 @@ fn push_leg(
     frame: u32,
     leg: u32,
 ) -> Result<(), AllocError>
-    requires legal { IsLegal network.now run.now }
+    requires legal { IsIdeal network.now run.now }
     requires frame { frame < length run.now }
     requires leg { leg < length (legs_in (travel_at run.now frame)) }
     ensures { OnOk result (moments.new.items

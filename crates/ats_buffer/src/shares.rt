@@ -13,16 +13,17 @@ use crate::legs::class_of;
 use crate::row_table::RowTable;
 use ats_certificate::Certificate;
 use ats_class_table::PortClassTable;
-use ats_network::Network;
+use ats_clock::Committed;
+use ats_network::{Network, committed_at};
 use ats_num::time::PS_PER_SECOND;
-use ats_streams::Stream;
 use std::alloc::{AllocError, Global};
 
 /// The buffer of each row of a certificate that holds for a network, in bits, in the order of the rows: the sum, over
 /// the streams with the row's class at its port, of the stream's burst and of what its rate gives, rounded down for
 /// each stream by itself, in the time within which its frames that are there together became eligible. That time is the
 /// wait and the transmission of the shortest frame by the row, and where a port of the stream leads to this port's
-/// bridge also that port's spread and the wait by the row of the stream's class there.
+/// bridge also that port's spread and the wait by the row of the stream's class there; rate and burst are those that
+/// that port sees, where there is one, else those that this one sees.
 ///
 /// It takes time linear in the numbers of the streams' ports, of ports and of rows. `AllocError` where there is no
 /// memory for the buffers, or for a row and a sum of each port and class.
@@ -91,45 +92,50 @@ fn add_leg(
         (concat (take (leg + 1) (legs_at network.now stream))) sums.new }
 {
     let declared = &network.streams()[stream as usize];
-    let mut way = way_to_leg(network, rows, stream, leg);
+    let front = way_to_leg(network, rows, stream, leg);
+    let mut before = front.0;
+    let mut way = front.1;
     for (hop, port) in network.sender_leg(stream, leg).iter().enumerate() {
         let class = class_of(network, stream, leg, hop as u32);
+        let seen = committed_at(network.topology(), declared, before.unwrap_or(*port));
         let window = stay(network, rows, *port, class) + way;
-        let sum = sums.get(*port, class) + bits_within(declared, window);
+        let sum = sums.get(*port, class) + bits_within(seen, window);
         sums.set(*port, class, sum);
+        before = Some(*port);
         way = way_over(network, rows, *port, class);
     }
 }
 
-// By how much a stream's ways to the first port of a leg differ, over the port that leads to the bridge where the leg
-// begins; nothing leads to the talker, where the trunk does and branches may.
-fn way_to_leg(network: &Network, rows: &RowTable, stream: u32, leg: u32) -> u128
+// The port that leads to the bridge where a stream's leg begins, and by how much the ways over it differ; nothing leads
+// to the talker, where the trunk begins and branches may.
+fn way_to_leg(network: &Network, rows: &RowTable, stream: u32, leg: u32) -> (Option<u32>, u128)
     requires stream { stream < length network.now.streams }
     requires leg { leg ≤ length (sender_at network.now stream).branches }
     requires ports { rows.now.ports ≡ length network.now.topology.ports }
     requires holds { Holds network.now rows.now.rows }
-    ensures { result ≡ way_behind network.now rows.now.rows (sender_at network.now stream)
+    ensures port { result.0 ≡ in_front_of (sender_at network.now stream) leg 0 }
+    ensures way { result.1 ≡ way_behind network.now rows.now.rows (sender_at network.now stream)
         (in_front_of (sender_at network.now stream) leg 0) }
 {
     if leg == 0 {
-        return 0;
+        return (None, 0);
     }
     let branch = network.streams()[stream as usize].branch(leg);
     if branch.hop == 0 {
-        return 0;
+        return (None, 0);
     }
     let port = network.sender_leg(stream, branch.leg)[branch.hop as usize - 1];
     let class = class_of(network, stream, branch.leg, branch.hop - 1);
-    way_over(network, rows, port, class)
+    (Some(port), way_over(network, rows, port, class))
 }
 
-// The most bits of a stream that a window of time holds.
-fn bits_within(stream: &Stream, window: u128) -> u128
+// The most bits of a window of time, of frames that conform to a rate and burst.
+fn bits_within(seen: Committed, window: u128) -> u128
     requires { window < 2 ^ 64 }
-    ensures { result ≡ most_bits stream.now window }
+    ensures { result ≡ most_bits seen window }
 {
-    let rate = u128::from(stream.rate().bps());
-    u128::from(stream.burst_bits()) + rate * window / u128::from(PS_PER_SECOND)
+    let rate = u128::from(seen.rate.bps());
+    u128::from(seen.burst_bits) + rate * window / u128::from(PS_PER_SECOND)
 }
 
 // How long a frame may be at a port, from its eligibility to the end of its transmission.

@@ -9,7 +9,6 @@ use Rattle.ats_network.specs.Network.{DeclaredNetwork, IsNetwork}
 use Rattle.ats_network.specs.Senders.{sender_at, IsSender}
 use Rattle.ats_group.specs.declared.verdict.Verdict.{Verdict}
 use Rattle.ats_group.specs.declared.verdict.Verdict.TheVariants.{Eligible}
-use Rattle.ats_group.specs.Judge.{ats_judge, bucket_rule}
 use Rattle.ats_trace.specs.Journey.{Travel, IsJourney, IsReleased, class_at, legs_at, legs_in}
 use Rattle.ats_trace.specs.Projections.{Hop, Crossing, transmission_by, transmission_of, crossing_at}
 use Rattle.ats_trace.specs.Projections.{crossings_along, crossings_from, journey_crossings}
@@ -90,13 +89,13 @@ journey_own network net n j is =
     (keeps.valid m [] within) (route_starts network.topology s m keeps within)
     (journey_route network j m net is within).released)
 
-pub all_own : (network : DeclaredNetwork) (run : List Travel) → Case ats_judge bucket_rule network run
+pub all_own : (network : DeclaredNetwork) (run : List Travel) → Case network run
     → All (IsOwnFrame network) (crossings_from network 0 run)
 all_own network run c =
-    run_crossings (IsJourney network) (IsOwnFrame network) network 0 run (journey_own network c.net) c.legal.journeys
+    run_crossings (IsJourney network) (IsOwnFrame network) network 0 run (journey_own network c.net) c.journeys
 
 -- and of each crossing is known what is known of its transmission
-pub all_known : (network : DeclaredNetwork) (run : List Travel) → Case ats_judge bucket_rule network run
+pub all_known : (network : DeclaredNetwork) (run : List Travel) → Case network run
     → All (λ (c : Crossing). IsKnown network (hop_of c)) (crossings_from network 0 run)
 all_known network run c =
     run_were_sent (IsKnown network) network 0 run

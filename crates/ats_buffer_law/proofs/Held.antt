@@ -6,30 +6,42 @@ use Rattle.std.proofs.lemmas.Bool.{cases_Bool, and_parts, eqb-true, eq-eqb, true
 use Rattle.std.proofs.lemmas.List.{get_or-map}
 use Rattle.std.proofs.lemmas.List.Elements.{All-filter, filter_passes}
 use Rattle.ats_num.specs.declared.time.TheConstants.{PS_PER_SECOND}
+use Rattle.ats_clock.specs.declared.committed.Committed.{Committed}
 use Rattle.ats_streams.specs.Stream.{DeclaredStream}
 use Rattle.ats_network.specs.Sender.{Sender, stream_sender}
-use Rattle.ats_network.specs.Network.{DeclaredNetwork}
+use Rattle.ats_network.specs.Network.{DeclaredNetwork, IsNetwork}
+use Rattle.ats_network.specs.Rates.{committed_at}
 use Rattle.ats_network.specs.Senders.{sender_at}
 use Rattle.ats_certificate.specs.Certificate.{Holds}
 use Rattle.ats_certificate.specs.declared.row.Row.{Row}
-use Rattle.ats_group.specs.Judge.{ats_judge, bucket_rule}
+use Rattle.ats_group.specs.Judge.{bucket_rule}
 use Rattle.ats_topology.specs.Port.{port_at}
 use Rattle.ats_port_law.proofs.Senders.{no_stream, stream_at, is_stream}
 use Rattle.ats_port_law.proofs.Sums.{sum_by-le-all, sum_by-none, sum_by-filter, sum_by-keys}
 use Rattle.ats_port_law.proofs.Used.{used_place}
+use Rattle.ats_trace.specs.Clocks.{IsLegal}
 use Rattle.ats_trace.specs.Journey.{Travel, class_at}
 use Rattle.ats_trace.specs.Projections.{Crossing, crossings_from, crossings_by}
 use Rattle.ats_trace.specs.Run.{releases_of}
-use Rattle.ats_trace.specs.Talker.{KeepsBuckets, talker_of}
+use Rattle.ats_trace.specs.Talker.{KeepsBuckets, read_by, talker_of}
+use Rattle.ats_trace.specs.declared.journey.Release.{Release}
+use Rattle.ats_clock_run_law.specs.Laws.{IsLegalInTrueTime}
+use Rattle.ats_clock_run_law.proofs.Ideal.{stations_read_true_time}
+use Rattle.ats_clock_run_law.proofs.TrueTime.{true_time_is_legal}
 use Rattle.ats_soundness_law.specs.Sound.{BeginAtStations}
+use Rattle.ats_soundness_law.specs.TrueTime.{KeepsBucketsIn}
 use Rattle.ats_soundness_law.proofs.Along.{hop_of}
-use Rattle.ats_soundness_law.proofs.Known.{Case, ats_case, IsKnown}
+use Rattle.ats_soundness_law.proofs.Known.{Case, IsKnown}
 use Rattle.ats_soundness_law.proofs.Node.{bridge_keeps}
+use Rattle.ats_soundness_law.proofs.Streams.{stream_exists}
+use Rattle.ats_soundness_law.proofs.ToldTimes.{case_in}
+use Rattle.ats_soundness_law.proofs.TrueTime.{kept_in_true_time, promises_in}
 use Rattle.ats_buffer.specs.Occupancy.{is_there, is_held, no_row, row_at}
-use Rattle.ats_buffer.specs.Buffer.{has_class, share_at, window_at, buffer_at}
-use Rattle.ats_buffer_law.specs.Laws.{NodesKeepBuckets, TalkersKeepBuckets, BuffersHold, PeaksFit, StationsAreAsked}
+use Rattle.ats_buffer.specs.Buffer.{counted_at, has_class, share_at, share_of, window_at, buffer_at}
+use Rattle.ats_buffer_law.specs.Laws.{BridgeKeeps, NodesKeepBuckets, NodesKeepInTrueTime, TalkersKeepBuckets}
+use Rattle.ats_buffer_law.specs.Laws.{BuffersHold, PeaksFit, StationsAreAsked}
 use Rattle.ats_buffer_law.proofs.Came.{all_known}
-use Rattle.ats_buffer_law.proofs.Fed.{fed_at}
+use Rattle.ats_buffer_law.proofs.Fed.{kept_at}
 use Rattle.ats_buffer_law.proofs.Windows.{OfStream, held_weight, within_window}
 
 -- what is known of a crossing that is counted: its port, its class, and its sender
@@ -43,7 +55,7 @@ abbrev held : DeclaredNetwork → List Travel → ℕ → ℕ → ℕ → List C
 held network run port class time = filter (is_held class time) (crossings_by network run port)
 
 all_counted : (network : DeclaredNetwork) (run : List Travel) (port class time : ℕ)
-    → Case ats_judge bucket_rule network run
+    → Case network run
     → All (IsCounted network port class) (held network run port class time)
 all_counted network run port class time c k d h =
     let at_port = λ (x : Crossing). x.port == port in
@@ -103,12 +115,12 @@ rounded rate window burst bits h = omega (arith, h)
 
 -- each stream has at most its share there
 share_holds : (network : DeclaredNetwork) (rows : List Row) (run : List Travel) (port class time : ℕ)
-    → Case ats_judge bucket_rule network run → Holds network rows → 1 ≤ class
-    → NodesKeepBuckets network run port class → (i : ℕ) → i < length network.streams
+    → IsNetwork network → Holds network rows → (legal : IsLegal network run) → 1 ≤ class
+    → NodesKeepBuckets network run legal port class → (i : ℕ) → i < length network.streams
     → sum_by (λ (c : Crossing). cond (c.sent.sender == i) c.sent.bits 0) (held network run port class time)
     ≤ cond (has_class port class (get_or network.streams i no_stream))
     (share_at network rows port class (get_or network.streams i no_stream)) 0
-share_holds network rows run port class time c holds some keep i h =
+share_holds network rows run port class time net holds legal some keep i h =
     let s : DeclaredStream = get_or network.streams i no_stream in
     let same : sender_at network i ≡ stream_sender s = stream_at network i h in
     let own = λ (c : Crossing). cond (c.sent.sender == i) c.sent.bits 0 in
@@ -118,23 +130,24 @@ share_holds network rows run port class time c holds some keep i h =
       | inl has ↦ (
           let ranked : class_at (sender_at network i) port ≡ class =
           ap (λ (x : Sender). class_at x port) same ∙ eqb-true (class_at (stream_sender s) port) class has in
-          let o : OfStream network rows run i port class = record {
-            case = c;
+          let o : OfStream (KeepsBucketsIn network run legal) network rows run i port class = record {
+            promises = promises_in network run net legal;
             holds = holds;
             exists = h;
             some = some;
             ranked = ranked;
-            fed = fed_at network run c i h (keep i h ranked).talker;
+            kept = kept_at (KeepsBucketsIn network run legal) network net i h (keep i h ranked).talker;
             here = (keep i h ranked).here;
             before = (keep i h ranked).before;
           } in
+          let seen : Committed =
+          committed_at network.topology (counted_at (sender_at network i) port) (sender_at network i) in
           let Within : Sender → Type 0 = λ (x : Sender).
-          PS_PER_SECOND * sum_by (held_weight i port time) (crossings_from network 0 run)
-          ≤ x.rate * window_at network rows port class x + PS_PER_SECOND * x.burst_bits in
-          let within : Within (stream_sender s) =
-          subst Within same (within_window network rows run i port class o time) in
-          let most = rounded s.rate (window_at network rows port class (stream_sender s)) s.burst_bits
-          (sum_by (held_weight i port time) (crossings_from network 0 run)) within in
+          sum_by (held_weight i port time) (crossings_from network 0 run) ≤ share_of network rows port class x in
+          let most : Within (stream_sender s) =
+          subst Within same (rounded seen.rate (window_at network rows port class (sender_at network i))
+          seen.burst_bits (sum_by (held_weight i port time) (crossings_from network 0 run))
+          (within_window (KeepsBucketsIn network run legal) network rows run i port class o time)) in
           omega (
             arith,
             held_by network run port class time i,
@@ -142,7 +155,7 @@ share_holds network rows run port class time c holds some keep i h =
             cond-true (has_class port class s) (share_at network rows port class s) 0 has,
           ))
       | inr none ↦ (
-          let counted = all_counted network run port class time c in
+          let counted = all_counted network run port class time (case_in net legal) in
           let nothing = sum_by-none own (held network run port class time)
           (λ k d w. (
           let one : Crossing = get_or (held network run port class time) k d in
@@ -160,41 +173,85 @@ share_holds network rows run port class time c holds some keep i h =
 
 pub buffers_hold : BuffersHold
 buffers_hold network rows run port class net holds legal some keep time =
-    let c : Case ats_judge bucket_rule network run = ats_case network run net legal in
     let share = λ (s : DeclaredStream). cond (has_class port class s) (share_at network rows port class s) 0 in
-    let counted = all_counted network run port class time c in
+    let counted = all_counted network run port class time (case_in net legal) in
     let all = sum_by-keys 1 (λ (x : Crossing). x.sent.bits) (λ (x : Crossing). x.sent.sender)
     (held network run port class time) share network.streams no_stream
     (λ k d h. counted_stream network port class (get_or (held network run port class time) k d) some (counted k d h))
     (λ i h. (
-    let one = share_holds network rows run port class time c holds some keep i h in
+    let one = share_holds network rows run port class time net holds legal some keep i h in
     omega (arith, one))) in
     let shares = sum_by-filter (share_at network rows port class) (has_class port class) network.streams in
     omega (arith, all, shares)
 
+-- what a node that is a station reads
+read_there : (network : DeclaredNetwork) (run : List Travel) (legal : IsLegal network run) (i : ℕ)
+    → BeginAtStations network → i < length network.streams
+    → read_by (legal.clocks (talker_of network i)) (releases_of run) ≡ releases_of run
+read_there network run legal i stations h =
+    stations_read_true_time network run legal (talker_of network i) (releases_of run)
+    (stations i (stream_exists network i h)).station
+
 -- where no bridge has frames of its own, the talkers alone are asked
-pub talkers_keep : (network : DeclaredNetwork) (run : List Travel) (port class : ℕ) → BeginAtStations network
-    → TalkersKeepBuckets network run port class → NodesKeepBuckets network run port class
-talkers_keep network run port class stations talkers i h ranked = record {
-  talker = talkers i h ranked;
-  here = λ bridge.
-      bridge_keeps bucket_rule network (releases_of run) (port_at network.topology.ports port).from stations bridge;
-  before = λ q is bridge. bridge_keeps bucket_rule network (releases_of run) (port_at network.topology.ports q).from
-      stations bridge;
+pub talkers_keep : (network : DeclaredNetwork) (run : List Travel) (legal : IsLegal network run) (port class : ℕ)
+    → BeginAtStations network → TalkersKeepBuckets network run port class
+    → NodesKeepBuckets network run legal port class
+talkers_keep network run legal port class stations talkers i h ranked = record {
+  talker = subst (λ (releases : List Release). KeepsBuckets network releases (talker_of network i))
+      (sym (read_there network run legal i stations h)) (talkers i h ranked);
+  here = no_frames port;
+  before = λ q is. no_frames q;
 }
+  where
+    no_frames : (p : ℕ) → BridgeKeeps (KeepsBucketsIn network run legal) network p
+    no_frames p bridge =
+        let node : ℕ = (port_at network.topology.ports p).from in
+        bridge_keeps bucket_rule network (read_by (legal.clocks node) (releases_of run)) node stations bridge
+
+talkers_keep_in_true_time : (network : DeclaredNetwork) (run : List Travel) (port class : ℕ) → BeginAtStations network
+    → TalkersKeepBuckets network run port class → NodesKeepInTrueTime network run port class
+talkers_keep_in_true_time network run port class stations talkers i h ranked = record {
+  talker = talkers i h ranked;
+  here = no_frames port;
+  before = λ q is. no_frames q;
+}
+  where
+    no_frames : (p : ℕ) → BridgeKeeps (KeepsBuckets network (releases_of run)) network p
+    no_frames p bridge =
+        bridge_keeps bucket_rule network (releases_of run) (port_at network.topology.ports p).from stations bridge
 
 pub stations_are_asked : StationsAreAsked
-stations_are_asked network run port class stations = (
-  λ keep. λ i h ranked. (keep i h ranked).talker,
-  λ talkers. talkers_keep network run port class stations talkers,
-)
+stations_are_asked network run port class stations = record {
+  by_clocks = λ legal. (
+    λ keep. λ i h ranked. subst (λ (releases : List Release). KeepsBuckets network releases (talker_of network i))
+        (read_there network run legal i stations h) (keep i h ranked).talker,
+    λ talkers. talkers_keep network run legal port class stations talkers,
+  );
+  in_true_time = (
+    λ keep. λ i h ranked. (keep i h ranked).talker,
+    λ talkers. talkers_keep_in_true_time network run port class stations talkers,
+  );
+}
+
+-- in a run by true time, buckets that are kept are kept by clocks that show it
+nodes_keep : (network : DeclaredNetwork) (run : List Travel) (made : IsLegalInTrueTime network run) (port class : ℕ)
+    → NodesKeepInTrueTime network run port class → NodesKeepBuckets network run made.legal port class
+nodes_keep network run made port class keep i h ranked =
+    let kept = kept_in_true_time network run made in
+    record {
+      talker = kept _ (keep i h ranked).talker;
+      here = λ bridge. kept _ ((keep i h ranked).here bridge);
+      before = λ q is bridge. kept _ ((keep i h ranked).before q is bridge);
+    }
 
 pub peaks_fit : PeaksFit
-peaks_fit network rows run peaks net holds legal are n h keep =
+peaks_fit network rows run peaks net holds ideal are n h keep =
     let row : Row = row_at rows n in
     let peak = are.each n h in
+    let made : IsLegalInTrueTime network run = true_time_is_legal network run net ideal in
     let some : 1 ≤ row.class =
     (used_place network row.port row.class net (holds.rows_of.used n no_row h)).ranked in
-    let fits = buffers_hold network rows run row.port row.class net holds legal some keep peak.reached.0 in
+    let fits = buffers_hold network rows run row.port row.class net holds made.legal some
+    (nodes_keep network run made row.port row.class keep) peak.reached.0 in
     let buffer = get_or-map (λ (row : Row). buffer_at network rows row.port row.class) rows n no_row 0 h in
     omega (arith, fits, peak.reached.1, buffer)

@@ -11,7 +11,6 @@ use Rattle.ats_network.specs.Network.{DeclaredNetwork, IsNetwork}
 use Rattle.ats_network.specs.Senders.{sender_at, IsSender, AllNeighbours}
 use Rattle.ats_group.specs.declared.verdict.Verdict.{Verdict}
 use Rattle.ats_group.specs.declared.verdict.Verdict.TheVariants.{Eligible, Late, Size}
-use Rattle.ats_group.specs.Judge.{ats_judge, bucket_rule}
 use Rattle.ats_group_law.proofs.WindowBits.{bits_in, bits_in-inside}
 use Rattle.ats_port_law.proofs.Sums.{sum_by-none}
 use Rattle.ats_streams.specs.Branches.{legs_of}
@@ -165,7 +164,7 @@ journey_soon network i port leg hop time stay net elsewhere at n j is =
     ]
 
 pub run_soon : (network : DeclaredNetwork) (run : List Travel) (i port leg hop time stay : ℕ)
-    → Case ats_judge bucket_rule network run
+    → Case network run
     → (talker_of network i ≡ (port_at network.topology.ports port).from → ⊥)
     → IsAt (sender_at network i) port leg hop
     → sum_by (soon_weight i port time stay) (crossings_from network 0 run)
@@ -173,7 +172,7 @@ pub run_soon : (network : DeclaredNetwork) (run : List Travel) (i port leg hop t
 run_soon network run i port leg hop time stay c elsewhere at =
     run_crossings-le (IsJourney network) (soon_weight i port time stay)
     (passed_weight i (group_port network port leg i) time stay) network 0 run
-    (journey_soon network i port leg hop time stay c.net elsewhere at) c.legal.journeys
+    (journey_soon network i port leg hop time stay c.net elsewhere at) c.journeys
 
 -- what is counted of a frame that was handed on, with what is known of it, is counted in the window
 pub passed-le : (time stay bound soonest octets arrival bits since : ℕ) (verdict : Verdict) → bits ≡ bits_of octets

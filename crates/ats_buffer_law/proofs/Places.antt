@@ -16,10 +16,11 @@ neighbours_at R (p ∷ []) k each h = absurd (omega arith)
 neighbours_at R (p ∷ q ∷ path) zero each h = each.0
 neighbours_at R (p ∷ q ∷ path) (suc k) each h = neighbours_at R (q ∷ path) k each.1 (omega arith)
 
--- a port of a path leaves the node where this begins, as its first one does, or it is one behind another, which leaves
--- a bridge, and another node
+-- a port of a path is the first one, which leaves the node where the path begins, or one behind another, which leaves a
+-- bridge, and another node
 pub data IsPlaced (topology : DeclaredTopology) (path : List ℕ) (port : ℕ) : Type 0 where
-  first : start_of topology.ports path ≡ (port_at topology.ports port).from → IsPlaced topology path port
+  first : get_or path 0 0 ≡ port → start_of topology.ports path ≡ (port_at topology.ports port).from
+      → IsPlaced topology path port
   behind : (k : ℕ) → suc k < length path → get_or path (suc k) 0 ≡ port → port_before port path ≡ get_or path k 0
       → (start_of topology.ports path ≡ (port_at topology.ports port).from → ⊥)
       → IsBridgeAt topology (port_at topology.ports port).from → IsPlaced topology path port
@@ -29,7 +30,7 @@ pub placed : (topology : DeclaredTopology) (port : ℕ) (path : List ℕ) (k : �
     → get_or path k 0 ≡ port → IsPlaced topology path port
 placed topology port [] k valid meet apart h is = absurd (omega arith)
 placed topology port (p ∷ path) zero valid meet apart h is =
-    first (ap (λ (q : ℕ). (port_at topology.ports q).from) is)
+    first is (ap (λ (q : ℕ). (port_at topology.ports q).from) is)
 placed topology port (p ∷ path) (suc k) valid meet apart h is =
     behind k h is
     (sym (neighbours_at (λ a b. b ≡ port → a ≡ port_before port (p ∷ path)) (p ∷ path) k

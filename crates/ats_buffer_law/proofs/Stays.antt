@@ -14,11 +14,10 @@ use Rattle.ats_network.specs.Senders.{sender_at, no_sender}
 use Rattle.ats_certificate.specs.PortSums.{is_used, is_of, shortest, port_sums}
 use Rattle.ats_certificate.specs.Certificate.{row_of, bound_at, RowHolds, Holds}
 use Rattle.ats_certificate.specs.declared.row.Row.{Row}
-use Rattle.ats_group.specs.Judge.{ats_judge, bucket_rule}
 use Rattle.ats_port_rule.specs.Transmission.{Transmission}
-use Rattle.ats_port_rule.specs.PortRule.{KeepsPortRule}
-use Rattle.ats_port_law.specs.PortLaw.{IsDeclared, IsWithinBound}
-use Rattle.ats_port_law.proofs.Law.{law}
+use Rattle.ats_port_rule.specs.PortRule.{KeepsPortRuleBy}
+use Rattle.ats_port_law.specs.PortLaw.{IsDeclared, IsOffered, IsWithinBound}
+use Rattle.ats_port_law.proofs.Law.{law_by}
 use Rattle.ats_port_law.proofs.Totals.{least_reaches}
 use Rattle.ats_port_law.proofs.Used.{IsPlace, used_place}
 use Rattle.ats_trace.specs.Journey.{Travel, class_at}
@@ -27,9 +26,9 @@ use Rattle.ats_trace.specs.Projections.{Crossing, Handed, sent_by, crossings_fro
 use Rattle.ats_soundness_law.specs.Sound.{IsEligibleBy}
 use Rattle.ats_soundness_law.proofs.Arrivals.{HasArrived, arrived}
 use Rattle.ats_soundness_law.proofs.Known.{Case}
-use Rattle.ats_soundness_law.proofs.Offered.{IsFed}
-use Rattle.ats_soundness_law.proofs.Serving.{Serves, serves}
+use Rattle.ats_soundness_law.proofs.Serving.{Promises, Serves, serves}
 use Rattle.ats_buffer.specs.Buffer.{of_row, stay_of, stay_at, way_by}
+use Rattle.ats_buffer_law.proofs.Fed.{IsKept}
 use Rattle.ats_buffer.proofs.Found.{IsFound, none, some, found, by_found}
 
 -- the row of a port and class, of a certificate that holds, and what it says there
@@ -66,20 +65,20 @@ has_row network rows port class holds used =
 pub record IsBrief (network : DeclaredNetwork) (rows : List Row) (port class : ℕ) (x : Transmission) : Type 0 where
   pub ends : x.class ≡ class → x.end ≤ x.eligible + stay_at network rows port class
 
-pub all_brief : (network : DeclaredNetwork) (rows : List Row) (run : List Travel) (port class : ℕ)
-    → Case ats_judge bucket_rule network run → Holds network rows → is_used network port class ≡ true
-    → IsFed bucket_rule network run port → All (IsBrief network rows port class) (sent_by network run port)
-all_brief network rows run port class c holds used fed =
+pub all_brief : {Keeps : ℕ → Type 0} (network : DeclaredNetwork) (rows : List Row) (run : List Travel)
+    (port class : ℕ) → Promises Keeps network run → Holds network rows → is_used network port class ≡ true
+    → IsKept Keeps network port → All (IsBrief network rows port class) (sent_by network run port)
+all_brief {Keeps} network rows run port class p holds used kept =
     let r : HasRow network rows port class = has_row network rows port class holds used in
     let row : Row = r.row in
-    let Fed : ℕ → Type 0 = λ (p : ℕ). (is_used network p row.class ≡ true) × IsFed bucket_rule network run p in
-    let there : Fed row.port = subst Fed (sym r.port_is)
-    (subst (λ (n : ℕ). is_used network port n ≡ true) (sym r.class_is) used, fed) in
+    let Asked : ℕ → Type 0 = λ (q : ℕ). (is_used network q row.class ≡ true) × IsKept Keeps network q in
+    let there : Asked row.port = subst Asked (sym r.port_is)
+    (subst (λ (n : ℕ). is_used network port n ≡ true) (sym r.class_is) used, kept) in
     let place : IsPlace (length network.topology.ports) row.port row.class =
-    used_place network row.port row.class c.net there.0 in
+    used_place network row.port row.class p.case.net there.0 in
     let each : All (IsWithinBound network row) (sent_by network run row.port) =
-    law network row (sent_by network run row.port) c.net there.0 r.holds.covers (c.legal.ports row.port place.within)
-    there.1.offered in
+    law_by (p.case.told row.port) network row (sent_by network run row.port) p.case.net there.0 r.holds.covers
+    (p.case.ports row.port place.within) (p.offered row.port place.within there.1) in
     let Within : ℕ → Transmission → Type 0 = λ (p : ℕ) (x : Transmission). x.class ≡ row.class
     → x.end + (port_at network.topology.ports p).latency.0 ≤ x.eligible + row.bound in
     let here : All (Within port) (sent_by network run port) =
@@ -110,30 +109,30 @@ crossings_port network run port c there =
     (filter_passes (λ (x : Crossing). x.port == port) (crossings_from network 0 run) k d h)) there
 
 one_timely : (network : DeclaredNetwork) (rows : List Row) (run : List Travel) (port class : ℕ)
-    → Case ats_judge bucket_rule network run → Holds network rows → is_used network port class ≡ true
-    → IsFed bucket_rule network run port
+    → Case network run → Holds network rows → is_used network port class ≡ true
+    → IsOffered network port (sent_by network run port)
     → (h : Handed) → HasArrived network run port class h
     → IsEligibleBy (h.crossing.sent.eligible + bound_at rows port class) (λ e. Unit {0}) h.verdict
     → IsTimely network rows port class h
-one_timely network rows run port class c holds used fed h came eligible =
+one_timely network rows run port class c holds used offered h came eligible =
     let p : Port = port_at network.topology.ports port in
     let ps : ℕ = p.ps_per_bit in
     let sent : List Transmission = sent_by network run port in
     let x : Transmission = h.crossing.sent in
     let place : IsPlace (length network.topology.ports) port class = used_place network port class c.net used in
     let r : HasRow network rows port class = has_row network rows port class holds used in
-    let rule : KeepsPortRule ps sent = c.legal.ports port place.within in
-    let link : KeepsLinkRule p (crossings_by network run port) = c.legal.links port place.within in
+    let rule : KeepsPortRuleBy (c.told port) ps sent = c.ports port place.within in
+    let link : KeepsLinkRule p (crossings_by network run port) = c.links port place.within in
     let in_time : ArrivesWithin p.earliest.0 p.latency.0 h.crossing =
     All-contains (ArrivesWithin p.earliest.0 p.latency.0) (crossings_by network run port) h.crossing link.within
     came.crossed in
     let declared : IsDeclared network port x =
-    All-contains (IsDeclared network port) sent x fed.offered.each came.sent in
+    All-contains (IsDeclared network port) sent x offered.each came.sent in
     let waits = All-contains (λ (y : Transmission). y.eligible ≤ y.start) sent x rule.waits came.sent in
     let takes = All-contains (λ (y : Transmission). y.end ≡ y.start + ps * y.bits) sent x rule.takes came.sent in
     let ranked : class_at (sender_at network x.sender) port ≡ class = sym declared.class ∙ came.class_is in
-    let reaches = least_reaches port (is_of class) shortest (senders_of network) x.sender no_sender declared.exists
-    declared.uses (eq-eqb (class_at (sender_at network x.sender) port) class ranked) in
+    let reaches = least_reaches network.topology port (is_of class) shortest (senders_of network) x.sender no_sender
+    declared.exists declared.uses (eq-eqb (class_at (sender_at network x.sender) port) class ranked) in
     let row_least : r.row.least ≡ (port_sums network port class).least =
     r.holds.covers.sums.least ∙ ap (λ (n : ℕ). (port_sums network n r.row.class).least) r.port_is
     ∙ ap (λ (n : ℕ). (port_sums network port n).least) r.class_is in
@@ -150,18 +149,19 @@ one_timely network rows run port class c holds used fed h came eligible =
     }
 
 -- so each one
-pub all_timely : (network : DeclaredNetwork) (rows : List Row) (run : List Travel) (port class : ℕ)
-    → Case ats_judge bucket_rule network run → Holds network rows → is_used network port class ≡ true
-    → IsFed bucket_rule network run port
+pub all_timely : {Keeps : ℕ → Type 0} (network : DeclaredNetwork) (rows : List Row) (run : List Travel)
+    (port class : ℕ) → Promises Keeps network run → Holds network rows → is_used network port class ≡ true
+    → IsKept Keeps network port
     → All (IsTimely network rows port class) (handed_by network run port class)
-all_timely network rows run port class c holds used fed k d h =
-    let place : IsPlace (length network.topology.ports) port class = used_place network port class c.net used in
+all_timely network rows run port class p holds used kept k d h =
+    let place : IsPlace (length network.topology.ports) port class = used_place network port class p.case.net used in
     let one : Handed = get_or (handed_by network run port class) k d in
-    let came : HasArrived network run port class one = arrived network run port class c k d h in
+    let came : HasArrived network run port class one = arrived network run port class p.case k d h in
     let served : Serves network run rows class port =
-    serves network run rows c (record { complete = holds.rows_of.complete; each = holds.each }) class port place.within
-    used fed in
+    serves network run rows p (record { complete = holds.rows_of.complete; each = holds.each }) class port place.within
+    used kept in
     let crossed = crossings_port network run port one.crossing came.crossed in
     let bridge : IsBridgeAt network.topology (port_at network.topology.ports port).to =
     subst (λ (p : ℕ). IsBridgeAt network.topology (port_at network.topology.ports p).to) crossed came.told.bridge in
-    one_timely network rows run port class c holds used fed one came (served.free bridge k d h)
+    one_timely network rows run port class p.case holds used (p.offered port place.within kept).offered one came
+    (served.free bridge k d h)

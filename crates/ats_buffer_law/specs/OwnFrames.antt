@@ -3,11 +3,13 @@ use Rattle.ats_topology.specs.Topology.{topology_of}
 use Rattle.ats_network.specs.Network.{DeclaredNetwork, long_network}
 use Rattle.ats_network.specs.Senders.{sender_at}
 use Rattle.ats_certificate.specs.declared.row.Row.{Row}
+use Rattle.ats_trace.specs.Clocks.{IsLegal}
 use Rattle.ats_trace.specs.Journey.{Travel}
-use Rattle.ats_trace.specs.Run.{IsLegal, releases_of}
+use Rattle.ats_trace.specs.Run.{releases_of}
 use Rattle.ats_trace.specs.Stored.{travel_at}
 use Rattle.ats_trace.specs.Talker.{talker_of, KeepsBuckets}
 use Rattle.ats_soundness_law.specs.Sound.{IsServed}
+use Rattle.ats_soundness_law.specs.TrueTime.{KeepsBucketsIn}
 use Rattle.ats_buffer.specs.Occupancy.{occupancy}
 use Rattle.ats_buffer.specs.Buffer.{buffer_at}
 use Rattle.ats_examples.specs.Networks.{stream, three_links, three_nodes}
@@ -58,9 +60,10 @@ own_before =
 -- holds at most its buffer, where the station keeps its buckets, whatever the first bridge sends
 pub record BridgeBackMayBabble : Type 0 where
   pub certified : IsCertified own_three own_three_rows
-  pub babbles : ¬ KeepsBuckets own_three (releases_of own_before) (talker_of own_three 1)
+  pub babbles : (legal : IsLegal own_three own_before)
+      → ¬ KeepsBucketsIn own_three own_before legal (talker_of own_three 1)
   pub not_served : ¬ IsServed own_three_rows (sender_at own_three 0) (travel_at own_before 0)
-  pub next : ¬ NodesKeepBuckets own_three own_before 4 6
+  pub next : (legal : IsLegal own_three own_before) → ¬ NodesKeepBuckets own_three own_before legal 4 6
   pub held : IsHeld own_three own_three_rows own_before 6 6 43524000 12336
   pub fits : (run : List Travel) → IsLegal own_three run
       → KeepsBuckets own_three (releases_of run) (talker_of own_three 0)

@@ -1,8 +1,9 @@
 use Rattle.std.specs.Prelude.{◌≡◌, ℕ, ◌<◌, ◌≤◌, List, [], ◌∷◌}
 use Rattle.ats_network.specs.Network.{DeclaredNetwork}
 use Rattle.ats_certificate.specs.declared.row.Row.{Row}
+use Rattle.ats_trace.specs.Clocks.{IsLegal}
 use Rattle.ats_trace.specs.Journey.{Travel}
-use Rattle.ats_trace.specs.Run.{IsLegal, releases_of}
+use Rattle.ats_trace.specs.Run.{releases_of}
 use Rattle.ats_trace.specs.Talker.{talker_of, KeepsBuckets}
 use Rattle.ats_buffer.specs.Occupancy.{occupancy}
 use Rattle.ats_buffer.specs.Buffer.{buffer_at, buffers_of}
@@ -23,7 +24,7 @@ use Rattle.ats_buffer_law.specs.Laws.{NodesKeepBuckets}
 pub record IsHeld (network : DeclaredNetwork) (rows : List Row) (run : List Travel) (port class time bits : ℕ)
     : Type 0 where
   pub legal : IsLegal network run
-  pub keep : NodesKeepBuckets network run port class
+  pub keep : NodesKeepBuckets network run legal port class
   pub there : occupancy network run port class time ≡ bits
   pub fits : bits ≤ buffer_at network rows port class
 
@@ -77,7 +78,7 @@ pub record CopiesAreHeld : Type 0 where
 pub record BabblerCounts : Type 0 where
   pub certified : IsCertified fork fork_rows
   pub beside : IsHeld fork fork_rows babbler 0 6 0 12336
-  pub not_kept : ¬ NodesKeepBuckets fork babbler 4 6
+  pub not_kept : (legal : IsLegal fork babbler) → ¬ NodesKeepBuckets fork babbler legal 4 6
   pub over : buffer_at fork fork_rows 4 6 < occupancy fork babbler 4 6 0
   pub held : occupancy fork babbler 4 6 0 ≡ 15456
 
@@ -87,4 +88,5 @@ pub record OtherClassesMayBabble : Type 0 where
   pub certified : IsCertified fork_of_classes hop_rows
   pub held : IsHeld fork_of_classes hop_rows (behind_two 6719999) 2 5 13836000 12336
   pub babbles : ¬ KeepsBuckets fork_of_classes (releases_of (behind_two 6719999)) (talker_of fork_of_classes 1)
-  pub not_kept : ¬ NodesKeepBuckets fork_of_classes (behind_two 6719999) 2 6
+  pub not_kept : (legal : IsLegal fork_of_classes (behind_two 6719999))
+      → ¬ NodesKeepBuckets fork_of_classes (behind_two 6719999) legal 2 6

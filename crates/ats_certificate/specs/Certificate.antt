@@ -2,6 +2,9 @@ use Rattle.std.specs.Prelude.{◌≡◌, ℕ, ◌+◌, ◌-◌, ◌*◌, ◌<◌
 use Rattle.std.specs.Prelude.{sum_by, All, AllPairs, Option, unwrap_or}
 use Rattle.std.specs.Option.{option_map, ForSome}
 use Rattle.ats_num.specs.declared.time.TheConstants.{PS_PER_SECOND, PS_PER_NS}
+use Rattle.ats_num.specs.Division.{ceiling}
+use Rattle.ats_clock.specs.Clock.{DeclaredClock}
+use Rattle.ats_clock.specs.declared.clock.TheConstants.{MILLION}
 use Rattle.ats_topology.specs.Port.{port_at, spread_of}
 use Rattle.ats_topology.specs.declared.port.Port.{Port}
 use Rattle.ats_streams.specs.Branches.{routes_of, trunk_of}
@@ -9,6 +12,7 @@ use Rattle.ats_streams.specs.Stream.{DeclaredStream}
 use Rattle.ats_network.specs.Sender.{Sender, stream_sender}
 use Rattle.ats_network.specs.Class.{class_at}
 use Rattle.ats_network.specs.Network.{DeclaredNetwork}
+use Rattle.ats_network.specs.Rates.{clock_behind}
 use Rattle.ats_network.specs.Residence.{residence_after}
 use Rattle.ats_certificate.specs.PortSums.{PortSums, port_sums, is_used}
 use Rattle.ats_certificate.specs.declared.row.Row.{Row}
@@ -79,11 +83,19 @@ pub record Covers (network : DeclaredNetwork) (row : Row) : Type 0 where
 abbrev pub residence_needed : Port → ℕ → ℕ
 residence_needed port wait = wait + spread_of port
 
+-- by a clock this is with what the clock may gain meanwhile by its deviation, and with its step
+abbrev pub need_by : DeclaredClock → ℕ → ℕ
+need_by clock need = need + clock.step_ps + ceiling (clock.deviation_ppm * need) MILLION
+
+-- how long it is behind a port by the clock there
+abbrev pub need_behind : DeclaredNetwork → ℕ → ℕ → ℕ
+need_behind network port wait =
+    need_by (clock_behind network.topology port) (residence_needed (port_at network.topology.ports port) wait)
+
 -- where a port leads to a bridge, this need is at most the maximum residence time there
 abbrev pub MayStay : DeclaredNetwork → ℕ → ℕ → Type 0
 MayStay network port wait =
-    ForSome (residence_after network.topology port)
-    (λ ns. residence_needed (port_at network.topology.ports port) wait ≤ PS_PER_NS * ns)
+    ForSome (residence_after network.topology port) (λ ns. need_behind network port wait ≤ PS_PER_NS * ns)
 
 -- what each row of a certificate keeps
 pub record RowHolds (network : DeclaredNetwork) (row : Row) : Type 0 where

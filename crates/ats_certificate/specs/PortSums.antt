@@ -2,6 +2,7 @@ use Rattle.std.specs.Prelude.{ℕ, ◌*◌, Bool, ◌||◌, ◌==◌, nat_lt, mi
 use Rattle.std.specs.List.{list_any}
 use Rattle.ats_num.specs.Wire.{bits_of}
 use Rattle.ats_topology.specs.Port.{port_at}
+use Rattle.ats_topology.specs.Topology.{DeclaredTopology}
 use Rattle.ats_network.specs.Sender.{Sender, stream_sender}
 use Rattle.ats_network.specs.Class.{PortSender, seen_at}
 use Rattle.ats_network.specs.Network.{DeclaredNetwork, senders_of}
@@ -45,8 +46,8 @@ abbrev pub least_where : (PortSender → Bool) → (PortSender → ℕ) → List
 least_where test amount senders = least_of (map amount (filter test senders))
 
 -- the senders that have the port, as it sees them: each once, however many listeners are behind
-abbrev pub senders_at : ℕ → List Sender → List PortSender
-senders_at port senders = map (seen_at port) (filter (uses port) senders)
+abbrev pub senders_at : DeclaredTopology → ℕ → List Sender → List PortSender
+senders_at topology port senders = map (seen_at topology port) (filter (uses port) senders)
 
 -- what the senders at a port make of a class. higher: the picoseconds of each second that the rates of the higher
 -- classes take; equal: the same of the class itself; bursts: the bursts of both, in bits; lower: the wire bits of the
@@ -72,8 +73,10 @@ sums_over ps_per_bit class senders = record {
 -- the sums of a port of a network, for a class
 abbrev pub port_sums : DeclaredNetwork → ℕ → ℕ → PortSums
 port_sums network port class =
-    sums_over (port_at network.topology.ports port).ps_per_bit class (senders_at port (senders_of network))
+    sums_over (port_at network.topology.ports port).ps_per_bit class
+    (senders_at network.topology port (senders_of network))
 
 -- some stream of the class uses the port
 abbrev pub is_used : DeclaredNetwork → ℕ → ℕ → Bool
-is_used network port class = list_any (is_of class) (senders_at port (map stream_sender network.streams))
+is_used network port class =
+    list_any (is_of class) (senders_at network.topology port (map stream_sender network.streams))

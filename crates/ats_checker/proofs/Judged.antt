@@ -38,13 +38,13 @@ higher_below network row is used right fits =
 
 -- the least wait, from what the senders make of a right row's place
 pub least_is : (network : DeclaredNetwork) (row : Row) (tally : Tally) → wrong_in network row ≡ None
-    → IsTally row.class (senders_at row.port (senders_of network)) tally
+    → IsTally row.class (senders_at network.topology row.port (senders_of network)) tally
     → wait_for (port_at network.topology.ports row.port).ps_per_bit row.higher tally
     ≡ least_wait (port_at network.topology.ports row.port) (port_sums network row.port row.class)
 least_is network row tally right h =
     let port : Port = port_at network.topology.ports row.port in
     let same : sums_of port.ps_per_bit tally ≡ port_sums network row.port row.class =
-    sums_are port.ps_per_bit row.class (senders_at row.port (senders_of network)) tally h in
+    sums_are port.ps_per_bit row.class (senders_at network.topology row.port (senders_of network)) tally h in
     ap (λ (n : ℕ). wait_for port.ps_per_bit n tally)
     ((right_from network row right).sums.higher ∙ sym (ap (λ (s : PortSums). s.higher) same))
     ∙ ap (least_wait port) same

@@ -3,7 +3,7 @@ use Rattle.ats_topology.specs.Port.{port_at}
 use Rattle.ats_network.specs.Network.{DeclaredNetwork}
 use Rattle.ats_certificate.specs.PortSums.{port_sums, is_used}
 use Rattle.ats_certificate.specs.Certificate.{HasRows, HasSums, FitsLink, IsEnough, MayStay, Covers, RowHolds}
-use Rattle.ats_certificate.specs.Certificate.{is_row_of, row_of, bound_of, residence_needed}
+use Rattle.ats_certificate.specs.Certificate.{is_row_of, row_of, bound_of, need_behind}
 use Rattle.ats_certificate.specs.Least.{IsLeastRow}
 use Rattle.ats_certificate.specs.declared.row.Row.{Row}
 use Rattle.ats_tally.specs.declared.reason.Reason.{Reason}
@@ -97,7 +97,7 @@ pub record IsShort (network : DeclaredNetwork) (rows : List Row) (port class wai
 pub record IsOverstay (network : DeclaredNetwork) (rows : List Row) (port class need : ℕ) : Type 0 where
   pub row : Row
   pub fault : IsRowAtFault network rows (Covers network) (λ (r : Row). MayStay network r.port r.wait) port class row
-  pub is : need ≡ residence_needed (port_at network.topology.ports row.port) row.wait
+  pub is : need ≡ need_behind network row.port row.wait
 
 -- the rows are those of the network, and each holds; this stream and this listener of it are the first for which their
 -- bounds are together over the deadline

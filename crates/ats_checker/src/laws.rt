@@ -1,6 +1,6 @@
 //! Laws of the judgement, and what an accepted certificate promises of each legal run.
 
-ghost use Rattle.ats_checker.specs.InTime.{HoldingIsInTime, SoundIsInTime, StationsAreInTime};
+ghost use Rattle.ats_checker.specs.InTime.{HoldingIsInTime, InTimeInTrueTime, SoundIsInTime, StationsAreInTime};
 ghost use Rattle.ats_checker.specs.Laws.{EachRefusalIsTheFirst, LeastIsAccepted, RefusedUnlessHolding};
 ghost use Rattle.ats_port_law.specs.PortLaw.{PortLaw};
 ghost use Rattle.ats_soundness_law.specs.Laws.{ShapingForFree, PathLaw, Containment, CertificateIsSound};
@@ -74,6 +74,12 @@ pub fn sound_is_in_time<R: TalkerRule>()
 /// are with their talkers asked alone.
 pub fn stations_are_in_time<R: TalkerRule>()
     ensures { StationsAreInTime R.kept }
+{}
+
+/// Where all nodes read true time nothing is asked of clocks: frames that are in time by clocks that differ are in time
+/// there.
+pub fn in_time_in_true_time()
+    ensures { InTimeInTrueTime }
 {}
 
 /// Deadlines are kept: where a certificate holds, in each legal run each frame of a stream whose talker keeps its

@@ -9,19 +9,17 @@ use Rattle.std.proofs.lemmas.List.Sums.{sum_by-cons}
 use Rattle.ats_facts.proofs.Lists.{all_unmapped, count_by-cons}
 use Rattle.ats_facts.proofs.Options.{cond-none, option_or-none}
 use Rattle.ats_num.specs.declared.time.TheConstants.{PS_PER_NS}
-use Rattle.ats_topology.specs.Port.{port_at}
-use Rattle.ats_topology.specs.declared.port.Port.{Port}
 use Rattle.ats_streams.specs.Stream.{DeclaredStream}
 use Rattle.ats_network.specs.Class.{class_at, seen_at}
 use Rattle.ats_network.specs.Listeners.{Listener, listeners_of}
 use Rattle.ats_network.specs.Network.{DeclaredNetwork, IsNetwork}
 use Rattle.ats_network.specs.Residence.{residence_after}
-use Rattle.ats_network.specs.Sender.{stream_sender}
-use Rattle.ats_certificate.specs.Certificate.{Holds, bound_on, residence_needed}
+use Rattle.ats_network.specs.Sender.{Sender, stream_sender}
+use Rattle.ats_certificate.specs.Certificate.{Holds, bound_on}
 use Rattle.ats_certificate.specs.PortSums.{is_of, is_used, uses}
 use Rattle.ats_certificate.specs.Used.{places_of}
 use Rattle.ats_certificate.specs.declared.row.Row.{Row}
-use Rattle.ats_tally.specs.Reason.{first_some, late, late_for, overstay, overstay_by}
+use Rattle.ats_tally.specs.Reason.{first_some, late, late_for, overstay, overstay_by, row_need}
 use Rattle.ats_tally.specs.declared.reason.Reason.TheVariants.{Deadline, Residence}
 use Rattle.ats_tally.proofs.Lists.{any_gives, first_some-none, none_first}
 use Rattle.ats_tally.proofs.Places.{is_at, places_have, places_used}
@@ -73,35 +71,33 @@ none_sums {X} f (x ∷ xs) all =
     omega (arith, sum_by-cons f x xs, rest, All-head (λ (y : X). f y ≡ 0) x xs all)
 
 -- a stay that is not too long is no reason against a row
-stays_from : (port : Port) (row : Row) (residence : Option ℕ) → is_over (stay_by port row residence) ≡ false
-    → overstay_by row (residence_needed port row.wait) residence ≡ None
-stays_from port row None h = refl
-stays_from port row (Some ns) h =
-    by_fail (nat_lt (PS_PER_NS * ns) (residence_needed port row.wait))
-    (Residence row.port row.class (residence_needed port row.wait)) h
+stays_from : (need : ℕ) (row : Row) (residence : Option ℕ) → is_over (stay_by need residence) ≡ false
+    → overstay_by row need residence ≡ None
+stays_from need row None h = refl
+stays_from need row (Some ns) h = by_fail (nat_lt (PS_PER_NS * ns) need) (Residence row.port row.class need) h
 
-stays_to : (port : Port) (row : Row) (residence : Option ℕ)
-    → overstay_by row (residence_needed port row.wait) residence ≡ None → is_over (stay_by port row residence) ≡ false
-stays_to port row None h = refl
-stays_to port row (Some ns) h =
-    cond-none (nat_lt (PS_PER_NS * ns) (residence_needed port row.wait))
-    (Residence row.port row.class (residence_needed port row.wait)) h
+stays_to : (need : ℕ) (row : Row) (residence : Option ℕ) → overstay_by row need residence ≡ None
+    → is_over (stay_by need residence) ≡ false
+stays_to need row None h = refl
+stays_to need row (Some ns) h = cond-none (nat_lt (PS_PER_NS * ns) need) (Residence row.port row.class need) h
 
 -- the stays of all hops are short enough exactly where no row of the least certificate has a reason against it
 row_stays : (network : DeclaredNetwork) (port class : ℕ) → over_count network ≡ 0 → is_used network port class ≡ true
     → overstay network (least_row network (port, class)) ≡ None
 row_stays network port class none used =
-    any_gives (is_user port class) (overstay network (least_row network (port, class)) ≡ None) network.streams
-    (λ k d h user. (
+    any_gives (is_user network.topology port class) (overstay network (least_row network (port, class)) ≡ None)
+    network.streams (λ k d h user. (
     let stream : DeclaredStream = get_or network.streams k d in
-    let both = and_parts (uses port (stream_sender stream)) (is_of class (seen_at port (stream_sender stream))) user in
+    let s : Sender = stream_sender stream in
+    let both = and_parts (uses port s) (is_of class (seen_at network.topology port s)) user in
     let class_is : class_at (stream_sender stream) port ≡ class =
     eqb-true (class_at (stream_sender stream) port) class both.1 in
     let along : All (λ p. is_over (parts_of_hop network stream p).stay ≡ false) stream.ports =
     count_none (λ p. is_over (parts_of_hop network stream p).stay) stream.ports
     (sum_none (λ (s : DeclaredStream). over_among network s s.ports) network.streams none k d h) in
     any_gives (λ p. eqb p port) (overstay network (least_row network (port, class)) ≡ None) stream.ports
-    (λ hop e inside there. stays_from (port_at network.topology.ports port) (least_row network (port, class))
+    (λ hop e inside there. stays_from (row_need network (least_row network (port, class)))
+    (least_row network (port, class))
     (residence_after network.topology port)
     (ap (λ (n : ℕ). is_over (parts_at network port n).stay) (sym class_is)
     ∙ ap (λ (n : ℕ). is_over (parts_of_hop network stream n).stay)
@@ -116,7 +112,7 @@ hop_stays network port class is none used =
     let each : All (λ (at : ℕ × ℕ). overstay network (least_row network at) ≡ None) (places_of network) =
     all_unmapped (λ (row : Row). overstay network row ≡ None) (least_row network) (places_of network)
     (none_first (overstay network) (least_certificate network) none) in
-    stays_to (port_at network.topology.ports port) (least_row network (port, class))
+    stays_to (row_need network (least_row network (port, class))) (least_row network (port, class))
     (residence_after network.topology port)
     (any_gives (is_at port class) (overstay network (least_row network (port, class)) ≡ None) (places_of network)
     (λ k d h there. (

@@ -5,6 +5,7 @@ use Rattle.std.specs.Prelude.{List, ◌&&◌, ◌||◌}
 use Rattle.std.specs.List.{All, list_any}
 use Rattle.std.proofs.lemmas.Bool.{and_from, and_parts, eq-eqb, eqb-true}
 use Rattle.std.proofs.lemmas.List.Folds.{list_any_at}
+use Rattle.ats_topology.specs.Topology.{DeclaredTopology}
 use Rattle.ats_streams.specs.Stream.{DeclaredStream}
 use Rattle.ats_network.specs.Sender.{Sender, stream_sender}
 use Rattle.ats_network.specs.Class.{PortSender, class_at, seen_at}
@@ -25,30 +26,32 @@ use Rattle.ats_explain.specs.Laws.{Carries}
 use Rattle.ats_explain.specs.Parts.{HopIsUsed}
 
 -- some stream has the port and is of the class there
-abbrev pub is_user : ℕ → ℕ → DeclaredStream → Bool
-is_user port class s = uses port (stream_sender s) && is_of class (seen_at port (stream_sender s))
+abbrev pub is_user : DeclaredTopology → ℕ → ℕ → DeclaredStream → Bool
+is_user topology port class s = uses port (stream_sender s) && is_of class (seen_at topology port (stream_sender s))
 
 -- a port and a class are used where this is so of some stream
 pub used_by : (network : DeclaredNetwork) (port class : ℕ)
-    → is_used network port class ≡ list_any (is_user port class) network.streams
+    → is_used network port class ≡ list_any (is_user network.topology port class) network.streams
 used_by network port class =
-    list_any-map (is_of class) (seen_at port) (filter (uses port) (map stream_sender network.streams))
-    ∙ list_any-filter (λ (s : Sender). is_of class (seen_at port s)) (uses port) (map stream_sender network.streams)
-    ∙ list_any-map (λ (s : Sender). uses port s && is_of class (seen_at port s)) stream_sender network.streams
+    list_any-map (is_of class) (seen_at network.topology port) (filter (uses port) (map stream_sender network.streams))
+    ∙ list_any-filter (λ (s : Sender). is_of class (seen_at network.topology port s)) (uses port)
+    (map stream_sender network.streams)
+    ∙ list_any-map (λ (s : Sender). uses port s && is_of class (seen_at network.topology port s)) stream_sender
+    network.streams
 
 -- some stream, itself, is of the class at each hop of a stream
 pub hops_used : (network : DeclaredNetwork)
     → All (λ (s : DeclaredStream). All (HopIsUsed network s) s.ports) network.streams
 hops_used network k d within hop e inside =
     let stream : DeclaredStream = get_or network.streams k d in
+    let s : Sender = stream_sender stream in
     let port : ℕ = get_or stream.ports hop e in
-    let class : ℕ = class_at (stream_sender stream) port in
+    let class : ℕ = class_at s port in
     let has : list_any (λ p. eqb p port) stream.ports ≡ true =
     list_any_at (λ p. eqb p port) stream.ports hop e inside (eq-eqb port port refl) in
     used_by network port class
-    ∙ list_any_at (is_user port class) network.streams k d within
-    (and_from (uses port (stream_sender stream)) (is_of class (seen_at port (stream_sender stream))) has
-    (eq-eqb class class refl))
+    ∙ list_any_at (is_user network.topology port class) network.streams k d within
+    (and_from (uses port s) (is_of class (seen_at network.topology port s)) has (eq-eqb class class refl))
 
 -- where nothing is overloaded, each port and class that is used fits its link
 pub fits_used : (network : DeclaredNetwork) (port class : ℕ) → IsNetwork network → Carries network
@@ -71,7 +74,7 @@ bursts_most network port class is used =
     omega (arith, within.bursts)
   where
     senders : List PortSender
-    senders = senders_at port (senders_of network)
+    senders = senders_at network.topology port (senders_of network)
 
     tally : Tally
     tally = record {

@@ -25,7 +25,7 @@ named_none network names count ports filled e past = record {
   count = filled.count ∙ e;
   each = λ port class within least most.
       filled.each port class (omega (arith, e, within)) most
-      ∙ sym (ap (λ (l : List Sender). Some (name_of (find (sends_lower port class
+      ∙ sym (ap (λ (l : List Sender). Some (name_of (find (sends_lower network.topology port class
       (port_sums network port class).lower) l))) (drop_all count (senders_of network) past));
 }
 
@@ -96,7 +96,7 @@ pub record NamesAlong (network : DeclaredNetwork) (sender : Sender) (ports : Lis
   pub each : (port class : ℕ) → port < length network.topology.ports → 1 ≤ class → class ≤ 7
       → value_at new port class
       ≡ cond (list_any (λ p. eqb p port) ports
-      && is_lower_of class (port_sums network port class).lower (seen_at port sender))
+      && is_lower_of class (port_sums network port class).lower (seen_at network.topology port sender))
       (Some (Some sender.name)) (value_at old port class)
 
 pub along_none : (network : DeclaredNetwork) (sender : Sender) (table : Table (Option (List ℕ)))
@@ -105,7 +105,8 @@ along_none network sender table = record { count = refl; each = λ port class wi
 
 pub along_more : (network : DeclaredNetwork) (sender : Sender) (hop : ℕ) (old new next : Table (Option (List ℕ)))
     → hop < length sender.ports → NamesAlong network sender (take hop sender.ports) old new
-    → NamesAt network (get_or sender.ports hop 0) (seen_at (get_or sender.ports hop 0) sender) sender.name 8 new next
+    → NamesAt network (get_or sender.ports hop 0) (seen_at network.topology (get_or sender.ports hop 0) sender)
+    sender.name 8 new next
     → NamesAlong network sender (take (hop + 1) sender.ports) old next
 along_more network sender hop old new next inside before adds = record {
   count = adds.count ∙ before.count;
@@ -117,7 +118,7 @@ along_more network sender hop old new next inside before adds = record {
     at = get_or sender.ports hop 0
 
     due : ℕ → ℕ → Bool
-    due port class = is_lower_of class (port_sums network port class).lower (seen_at port sender)
+    due port class = is_lower_of class (port_sums network port class).lower (seen_at network.topology port sender)
 
     more : (port : ℕ) → list_any (λ p. eqb p port) (take (hop + 1) sender.ports)
         ≡ (list_any (λ p. eqb p port) (take hop sender.ports) || eqb at port)
@@ -169,17 +170,19 @@ named_more network i old new within later along = record {
   count = along.count ∙ later.count;
   each = λ port class inside least most.
       along.each port class inside least most
-      ∙ ap (cond (sends_lower port class (port_sums network port class).lower sender) (Some (Some sender.name)))
+      ∙ ap (cond (sends port class sender) (Some (Some sender.name)))
       (later.each port class inside least most)
-      ∙ chosen (sends_lower port class (port_sums network port class).lower sender)
-      (find (sends_lower port class (port_sums network port class).lower) (drop (i + 1) (senders_of network)))
-      ∙ ap (λ (l : List Sender). Some (name_of (find (sends_lower port class (port_sums network port class).lower) l)))
+      ∙ chosen (sends port class sender) (find (sends port class) (drop (i + 1) (senders_of network)))
+      ∙ ap (λ (l : List Sender). Some (name_of (find (sends port class) l)))
       (ap (λ (n : ℕ). sender ∷ drop n (senders_of network)) (add-one i)
       ∙ sym (drop-cons (senders_of network) i no_sender within));
 }
   where
     sender : Sender
     sender = sender_at network i
+
+    sends : ℕ → ℕ → Sender → Bool
+    sends port class = sends_lower network.topology port class (port_sums network port class).lower
 
     chosen : (b : Bool) (o : Option Sender)
         → cond b (Some (Some sender.name)) (Some (name_of o)) ≡ Some (name_of (cond b (Some sender) o))

@@ -1,16 +1,18 @@
 -- The rates of the streams at a port.
-use Rattle.std.proofs.Common.{◌≡◌, ◌≤◌, ◌+◌, ℕ, Bool, true, false, cond, List, [], ◌∷◌, ◌++◌}
-use Rattle.std.proofs.Common.{map, filter, sum_by, refl, sym, ap, subst, ◌∙◌, eqb, arith}
+use Rattle.std.proofs.Common.{◌≡◌, ◌≤◌, ◌+◌, ℕ, Bool, true, false, cond, List, [], ◌∷◌}
+use Rattle.std.proofs.Common.{get_or, map, filter, sum_by, refl, sym, ap, subst, ◌∙◌, eqb, arith}
 use Rattle.std.specs.Prelude.{nat_lt}
 use Rattle.std.specs.List.{All, list_any}
 use Rattle.std.proofs.lemmas.Bool.{eqb-false, eqb-true, lt-ltb, ltb-false, ltb-true, or_parts}
 use Rattle.std.proofs.lemmas.List.Elements.{All-append, All-filter, All-head, All-map, All-tail, All-weaker}
-use Rattle.std.proofs.lemmas.List.Elements.{filter-append}
 use Rattle.std.proofs.lemmas.List.Sums.{sum_by-cons, sum_by-append}
+use Rattle.ats_clock.specs.declared.committed.Committed.{Committed}
+use Rattle.ats_topology.specs.Topology.{DeclaredTopology, IsTopology}
 use Rattle.ats_streams.specs.Flow.{DeclaredFlow}
 use Rattle.ats_network.specs.Sender.{Sender, stream_sender, flow_sender}
 use Rattle.ats_network.specs.Class.{PortSender, seen_at}
 use Rattle.ats_network.specs.Network.{DeclaredNetwork, IsNetwork, senders_of}
+use Rattle.ats_network.proofs.RateLemmas.{declared_no_greater, flow_sees_nothing}
 use Rattle.ats_certificate.specs.PortSums.{is_above, is_of, senders_at, sum_where, uses}
 use Rattle.ats_tally.specs.Tally.{IsTally}
 use Rattle.ats_tally.specs.declared.tally.Tally.{Tally}
@@ -64,64 +66,71 @@ classes_all (s ∷ ss) all =
         let none = All-head IsShaped s ss all zero in
         omega (arith, h, none, sum_by-cons (λ (s : PortSender). s.rate) s ss)
 
--- a port sees the rates that the senders declare
-seen_rates : (port : ℕ) (senders : List Sender)
-    → sum_by (λ (s : PortSender). s.rate) (map (seen_at port) senders) ≡ sum_by (λ (s : Sender). s.rate) senders
-seen_rates port [] = refl
-seen_rates port (s ∷ senders) =
-    sum_by-cons (λ (s : PortSender). s.rate) (seen_at port s) (map (seen_at port) senders)
-    ∙ ap (λ (n : ℕ). s.rate + n) (seen_rates port senders) ∙ sym (sum_by-cons (λ (s : Sender). s.rate) s senders)
+-- a flow has no rate at a port
+flow_rate : (topology : DeclaredTopology) (port : ℕ) (f : DeclaredFlow) → IsTopology topology
+    → (seen_at topology port (flow_sender f)).rate ≡ 0
+flow_rate topology port f is = ap (λ (c : Committed). c.rate) (flow_sees_nothing topology f port is).seen
 
--- flows have no rate
-flow_rates : (port : ℕ) (flows : List DeclaredFlow)
-    → sum_by (λ (s : Sender). s.rate) (filter (uses port) (map flow_sender flows)) ≡ 0
-flow_rates port [] = refl
-flow_rates port (f ∷ flows) = by (uses port (flow_sender f)) (flow_rates port flows)
+flow_rates : (topology : DeclaredTopology) (port : ℕ) (flows : List DeclaredFlow) → IsTopology topology
+    → sum_by (λ (s : PortSender). s.rate) (senders_at topology port (map flow_sender flows)) ≡ 0
+flow_rates topology port [] is = refl
+flow_rates topology port (f ∷ flows) is = by (uses port (flow_sender f)) (flow_rates topology port flows is)
   where
     rest : List Sender
     rest = filter (uses port) (map flow_sender flows)
 
-    by : (b : Bool) → sum_by (λ (s : Sender). s.rate) rest ≡ 0
-        → sum_by (λ (s : Sender). s.rate) (cond b (flow_sender f ∷ rest) rest) ≡ 0
-    by true h = omega (arith, h, sum_by-cons (λ (s : Sender). s.rate) (flow_sender f) rest)
+    by : (b : Bool) → sum_by (λ (s : PortSender). s.rate) (map (seen_at topology port) rest) ≡ 0
+        → sum_by (λ (s : PortSender). s.rate) (map (seen_at topology port) (cond b (flow_sender f ∷ rest) rest)) ≡ 0
+    by true h = omega (
+      arith,
+      h,
+      flow_rate topology port f is,
+      sum_by-cons (λ (s : PortSender). s.rate) (seen_at topology port (flow_sender f))
+          (map (seen_at topology port) rest),
+    )
     by false h = h
 
 -- each sender at a port is of class 0 only where it is a flow
 all_shaped : (network : DeclaredNetwork) (port : ℕ) → IsNetwork network
-    → All IsShaped (senders_at port (senders_of network))
+    → All IsShaped (senders_at network.topology port (senders_of network))
 all_shaped network port is =
     let streams : List Sender = map stream_sender network.streams in
     let flows : List Sender = map flow_sender network.flows in
-    subst (λ (l : List PortSender). All IsShaped l) (sym (senders_at-append port streams flows))
-    (All-append IsShaped (senders_at port streams) (senders_at port flows)
+    let seen : Sender → PortSender = seen_at network.topology port in
+    subst (λ (l : List PortSender). All IsShaped l) (sym (senders_at-append network.topology port streams flows))
+    (All-append IsShaped (map seen (filter (uses port) streams)) (map seen (filter (uses port) flows))
     (All-weaker (λ (s : PortSender). 1 ≤ s.class) IsShaped (λ s some none. absurd (omega arith))
-    (senders_at port streams) (streams_class port network.streams is.streams))
-    (All-map IsShaped (seen_at port) (filter (uses port) flows)
-    (All-filter (uses port) (λ (s : Sender). IsShaped (seen_at port s)) flows
-    (All-map (λ (s : Sender). IsShaped (seen_at port s)) flow_sender network.flows (λ k d h none. refl)))))
+    (map seen (filter (uses port) streams)) (streams_class network.topology port network.streams is.streams))
+    (All-map IsShaped seen (filter (uses port) flows)
+    (All-filter (uses port) (λ (s : Sender). IsShaped (seen s)) flows
+    (All-map (λ (s : Sender). IsShaped (seen s)) flow_sender network.flows
+    (λ k d h none. flow_rate network.topology port (get_or network.flows k d) is.topology)))))
 
 -- what streams make of a port's class 1 and the higher ones is all that they make of it
 pub rates_are : (network : DeclaredNetwork) (port : ℕ) (tally : Tally) → IsNetwork network
-    → IsTally 1 (senders_at port (senders_of network)) tally → tally.above + tally.equal ≡ rate_at network port
+    → IsTally 1 (senders_at network.topology port (senders_of network)) tally
+    → tally.above + tally.equal ≡ rate_at network port
 rates_are network port tally is h =
-    let streams : List Sender = filter (uses port) (map stream_sender network.streams) in
-    let flows : List Sender = filter (uses port) (map flow_sender network.flows) in
-    let seen : List PortSender = senders_at port (senders_of network) in
-    let whole : sum_by (λ (s : PortSender). s.rate) seen ≡ sum_by (λ (s : Sender). s.rate) (streams ++ flows) =
-    seen_rates port (filter (uses port) (senders_of network))
-    ∙ ap (sum_by (λ (s : Sender). s.rate))
-    (filter-append (uses port) (map stream_sender network.streams) (map flow_sender network.flows)) in
-    let parts = sum_by-append (λ (s : Sender). s.rate) streams flows in
+    let streams : List Sender = map stream_sender network.streams in
+    let flows : List Sender = map flow_sender network.flows in
+    let seen : List Sender → List PortSender = senders_at network.topology port in
     omega (
       arith,
       h.above,
       h.equal,
-      whole,
-      parts,
-      flow_rates port network.flows,
-      classes_all seen
-          (all_shaped network port is),
+      ap (sum_by (λ (s : PortSender). s.rate)) (senders_at-append network.topology port streams flows),
+      sum_by-append (λ (s : PortSender). s.rate) (seen streams) (seen flows),
+      flow_rates network.topology port network.flows is.topology,
+      classes_all (seen (senders_of network)) (all_shaped network port is),
     )
+
+seen_rates : (seen : Sender → PortSender) (senders : List Sender)
+    → sum_by (λ (s : PortSender). s.rate) (map seen senders) ≡ sum_by (λ (s : Sender). (seen s).rate) senders
+seen_rates seen [] = refl
+seen_rates seen (s ∷ senders) =
+    sum_by-cons (λ (s : PortSender). s.rate) (seen s) (map seen senders)
+    ∙ ap (λ (n : ℕ). (seen s).rate + n) (seen_rates seen senders)
+    ∙ sym (sum_by-cons (λ (s : Sender). (seen s).rate) s senders)
 
 filter_none : (test : Sender → Bool) (senders : List Sender) → list_any test senders ≡ false
     → filter test senders ≡ []
@@ -139,12 +148,23 @@ some_rate network port is = by (has_stream network port) refl
     streams : List Sender
     streams = map stream_sender network.streams
 
+    seen : Sender → PortSender
+    seen = seen_at network.topology port
+
     by : (b : Bool) → list_any (uses port) streams ≡ b
-        → nat_lt 0 (sum_by (λ (s : Sender). s.rate) (filter (uses port) streams)) ≡ b
+        → nat_lt 0 (sum_by (λ (s : PortSender). s.rate) (map seen (filter (uses port) streams))) ≡ b
     by true e =
-        lt-ltb 0 (sum_by (λ (s : Sender). s.rate) (filter (uses port) streams))
-        (any_sum (uses port) (λ (s : Sender). s.rate) streams
-        (All-map (λ (s : Sender). uses port s ≡ true → 1 ≤ s.rate) stream_sender network.streams
-        (λ k d h used. (is.streams k d h).rules.rate.positive)) e)
+        let some = any_sum (uses port) (λ (s : Sender). (seen s).rate) streams
+        (All-map (λ (s : Sender). uses port s ≡ true → 1 ≤ (seen s).rate) stream_sender network.streams
+        (λ k d h used. (
+        let s : Sender = stream_sender (get_or network.streams k d) in
+        omega (
+          arith,
+          (is.streams k d h).rules.rate.positive,
+          (declared_no_greater network.topology s port is.topology).rate,
+        )))) e in
+        lt-ltb 0 (sum_by (λ (s : PortSender). s.rate) (map seen (filter (uses port) streams)))
+        (omega (arith, some, seen_rates seen (filter (uses port) streams)))
     by false e =
-        ap (λ (l : List Sender). nat_lt 0 (sum_by (λ (s : Sender). s.rate) l)) (filter_none (uses port) streams e)
+        ap (λ (l : List Sender). nat_lt 0 (sum_by (λ (s : PortSender). s.rate) (map seen l)))
+        (filter_none (uses port) streams e)

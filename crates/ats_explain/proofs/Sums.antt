@@ -10,7 +10,8 @@ use Rattle.std.proofs.lemmas.List.Elements.{All-cons, All-filter, All-head, All-
 use Rattle.std.proofs.lemmas.List.Sums.{sum_by-cons}
 use Rattle.std.proofs.lemmas.Option.{none-some, same_Some}
 use Rattle.ats_num.specs.declared.time.TheConstants.{PS_PER_SECOND}
-use Rattle.ats_topology.specs.Port.{port_at}
+use Rattle.ats_topology.specs.Node.{clock_of}
+use Rattle.ats_topology.specs.Port.{port_at, spread_of}
 use Rattle.ats_topology.specs.declared.node.Kind.{Kind}
 use Rattle.ats_topology.specs.declared.node.Kind.TheVariants.{Station, Bridge}
 use Rattle.ats_streams.specs.Branches.{routes_of}
@@ -20,11 +21,11 @@ use Rattle.ats_streams.proofs.RouteLemmas.{each_on_routes}
 use Rattle.ats_network.specs.Network.{DeclaredNetwork, IsNetwork, senders_of}
 use Rattle.ats_network.specs.Sender.{Sender, stream_sender}
 use Rattle.ats_network.specs.Class.{PortSender, class_at, seen_at}
-use Rattle.ats_network.specs.Residence.{residence_after, residence_at}
+use Rattle.ats_network.specs.Residence.{residence_at}
 use Rattle.ats_network.proofs.SenderLemmas.{each_is_sender}
 use Rattle.ats_certificate.specs.PortSums.{PortSums, is_above, is_below, is_of, is_used, least_of, longest, port_sums}
 use Rattle.ats_certificate.specs.PortSums.{senders_at, shortest, uses}
-use Rattle.ats_certificate.specs.Certificate.{bound_at, bound_of_hop, is_row_of, row_of}
+use Rattle.ats_certificate.specs.Certificate.{bound_at, bound_of_hop, is_row_of, need_behind, need_by, row_of}
 use Rattle.ats_certificate.specs.declared.row.Row.{Row}
 use Rattle.ats_tally.proofs.Lists.{All-found, IsFound, found_is, option_cases}
 use Rattle.ats_tally.proofs.Places.{IsPlace, is_place}
@@ -35,7 +36,7 @@ use Rattle.ats_bound.proofs.LeastHolds.{least_rows}
 use Rattle.ats_bound.proofs.NoneHolds.{IsLeastOf, each_least, no_none, row_at}
 use Rattle.ats_bound.proofs.Waits.{Fits, least_row-is, least_wait-is, remains}
 use Rattle.ats_explain.specs.Laws.{AreParts, Carries, EachStreamAddsUp, IsOfLongest, IsStayOf, kind_behind}
-use Rattle.ats_explain.specs.Parts.{HopIsUsed, parts_at, parts_of_hop, stay_by}
+use Rattle.ats_explain.specs.Parts.{HopIsUsed, parts_at, parts_of_hop, stay_behind, stay_by}
 use Rattle.ats_explain.specs.Senders.{is_lower_of, lower_name, lower_sender, name_of, sends_lower}
 use Rattle.ats_explain.proofs.Hops.{fits_used, hops_used}
 
@@ -90,7 +91,7 @@ own_bursts class (s ∷ senders) = by (is_above class s) (is_of class s) (own_bu
 least_bursts : (network : DeclaredNetwork) (port class : ℕ) → IsNetwork network → 1 ≤ class
     → (port_sums network port class).least ≤ (port_sums network port class).bursts
 least_bursts network port class is some =
-    let seen : List PortSender = senders_at port (senders_of network) in
+    let seen : List PortSender = senders_at network.topology port (senders_of network) in
     let all : All IsSeen seen = all_seen network.topology port (senders_of network) (each_is_sender network is) in
     let each : All (λ (s : PortSender). shortest s ≤ s.burst_bits) (filter (is_of class) seen) =
     λ k d h. (
@@ -181,38 +182,41 @@ of_longest network port class = by (lower_sender network port class) refl
     bits : ℕ
     bits = (port_sums network port class).lower
 
-    by : (o : Option Sender) → find (sends_lower port class bits) (senders_of network) ≡ o
+    seen : Sender → PortSender
+    seen = seen_at network.topology port
+
+    by : (o : Option Sender) → find (sends_lower network.topology port class bits) (senders_of network) ≡ o
         → IsOfLongest network port class (name_of o)
-    by None e = find_none (sends_lower port class bits) (senders_of network) e
+    by None e = find_none (sends_lower network.topology port class bits) (senders_of network) e
     by (Some sender) e =
-        let first = find_first (sends_lower port class bits) (senders_of network) sender e in
-        let uses_it = and_parts (uses port sender) (is_lower_of class bits (seen_at port sender)) first.0 in
-        let lower = and_parts (is_below class (seen_at port sender)) (eqb (longest (seen_at port sender)) bits)
-        uses_it.1 in
+        let first = find_first (sends_lower network.topology port class bits) (senders_of network) sender e in
+        let uses_it = and_parts (uses port sender) (is_lower_of class bits (seen sender)) first.0 in
+        let lower = and_parts (is_below class (seen sender)) (eqb (longest (seen sender)) bits) uses_it.1 in
         record {
           sender = sender;
           named = refl;
           uses = uses_it.0;
-          lower = ltb-true (seen_at port sender).class class lower.0;
-          longest = eqb-true (longest (seen_at port sender)) bits lower.1;
+          lower = ltb-true (seen sender).class class lower.0;
+          longest = eqb-true (longest (seen sender)) bits lower.1;
           first = first.1;
         }
 
 -- the stay of a row, by what its port leads to
 stay_is : (network : DeclaredNetwork) (port : ℕ) (row : Row)
-    → IsStayOf network port row.wait
-    (stay_by (port_at network.topology.ports port) row (residence_after network.topology port))
+    → IsStayOf network port row.wait (stay_behind network port row.wait)
 stay_is network port row = by (kind_behind network port) refl
   where
     by : (kind : Kind) → kind_behind network port ≡ kind
-        → IsStayOf network port row.wait (stay_by (port_at network.topology.ports port) row (residence_at kind))
+        → IsStayOf network port row.wait (stay_by (need_behind network port row.wait) (residence_at kind))
     by Station e = e
-    by (Bridge processing_min_ns processing_max_ns residence_ns) e = record {
+    by (Bridge processing_min_ns processing_max_ns residence_ns clock_ppm clock_step_ps) e = record {
       processing_min_ns = processing_min_ns;
       processing_max_ns = processing_max_ns;
       residence_ns = residence_ns;
+      clock_ppm = clock_ppm;
+      clock_step_ps = clock_step_ps;
       bridge = e;
-      need = refl;
+      need = ap (λ (k : Kind). need_by (clock_of k) (row.wait + spread_of (port_at network.topology.ports port))) e;
       residence = refl;
     }
 

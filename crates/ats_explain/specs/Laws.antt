@@ -1,5 +1,6 @@
 use Rattle.std.specs.Prelude.{◌≡◌, ◌↔◌, ℕ, ◌+◌, ◌*◌, ◌<◌, IsTrue, false, List, sum_by, All, Option, Some, None}
 use Rattle.ats_num.specs.declared.time.TheConstants.{PS_PER_NS}
+use Rattle.ats_clock.specs.Clock.{declared_clock}
 use Rattle.ats_topology.specs.Port.{port_at, spread_of}
 use Rattle.ats_topology.specs.Topology.{node_at}
 use Rattle.ats_topology.specs.declared.node.Kind.{Kind}
@@ -11,7 +12,7 @@ use Rattle.ats_network.specs.Class.{class_at, seen_at}
 use Rattle.ats_network.specs.Network.{DeclaredNetwork, IsNetwork, senders_of}
 use Rattle.ats_certificate.specs.PortSums.{longest, port_sums, uses}
 use Rattle.ats_certificate.specs.Used.{places_of}
-use Rattle.ats_certificate.specs.Certificate.{Holds}
+use Rattle.ats_certificate.specs.Certificate.{Holds, need_by}
 use Rattle.ats_certificate.specs.Least.{IsLeastRow}
 use Rattle.ats_certificate.specs.declared.row.Row.{Row}
 use Rattle.ats_tally.specs.Reason.{first_some}
@@ -38,29 +39,36 @@ pub record SendsLongest (network : DeclaredNetwork) (port class : ℕ) (name : L
   pub sender : Sender
   pub named : sender.name ≡ name
   pub uses : IsTrue (uses port sender)
-  pub lower : (seen_at port sender).class < class
-  pub longest : longest (seen_at port sender) ≡ (port_sums network port class).lower
-  pub first : IsFirstBreach (λ s. sends_lower port class (port_sums network port class).lower s ≡ false)
+  pub lower : (seen_at network.topology port sender).class < class
+  pub longest : longest (seen_at network.topology port sender) ≡ (port_sums network port class).lower
+  pub first : IsFirstBreach
+      (λ s. sends_lower network.topology port class (port_sums network port class).lower s ≡ false)
       (senders_of network) sender
 
 -- a name is that of such a sender; where there is no name, there is none
 abbrev pub IsOfLongest : DeclaredNetwork → ℕ → ℕ → Option (List ℕ) → Type 0
 IsOfLongest network port class (Some name) = SendsLongest network port class name
 IsOfLongest network port class None =
-    All (λ s. sends_lower port class (port_sums network port class).lower s ≡ false) (senders_of network)
+    All (λ s. sends_lower network.topology port class (port_sums network port class).lower s ≡ false)
+    (senders_of network)
 
 -- what the node is that a port leads to
 abbrev pub kind_behind : DeclaredNetwork → ℕ → Kind
 kind_behind network port = (node_at network.topology.nodes (port_at network.topology.ports port).to).kind
 
 -- a port leads to a bridge. A frame that may have to wait so long at the port may have to stay there as much longer as
--- the port's spread, and may stay as long as the bridge's maximum residence time
+-- the port's spread, and by the bridge's clock as long as this counts then at most; it may stay as long as the bridge's
+-- maximum residence time
 pub record IsStayBehind (network : DeclaredNetwork) (port wait : ℕ) (told : Stay) : Type 0 where
   pub processing_min_ns : ℕ
   pub processing_max_ns : ℕ
   pub residence_ns : ℕ
-  pub bridge : kind_behind network port ≡ Bridge processing_min_ns processing_max_ns residence_ns
-  pub need : told.need ≡ wait + spread_of (port_at network.topology.ports port)
+  pub clock_ppm : ℕ
+  pub clock_step_ps : ℕ
+  pub bridge : kind_behind network port
+      ≡ Bridge processing_min_ns processing_max_ns residence_ns clock_ppm clock_step_ps
+  pub need : told.need ≡ need_by (declared_clock clock_ppm clock_step_ps)
+      (wait + spread_of (port_at network.topology.ports port))
   pub residence : told.residence ≡ PS_PER_NS * residence_ns
 
 -- a stay is told of each port that leads to a bridge, whether frames go on from there or not, and none of one that

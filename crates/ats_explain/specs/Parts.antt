@@ -9,24 +9,28 @@ use Rattle.ats_network.specs.Class.{class_at}
 use Rattle.ats_network.specs.Network.{DeclaredNetwork}
 use Rattle.ats_network.specs.Residence.{residence_after}
 use Rattle.ats_certificate.specs.PortSums.{is_used}
-use Rattle.ats_certificate.specs.Certificate.{residence_needed}
+use Rattle.ats_certificate.specs.Certificate.{need_behind}
 use Rattle.ats_certificate.specs.declared.row.Row.{Row}
 use Rattle.ats_bound.specs.Least.{least_row}
 use Rattle.ats_explain.specs.Senders.{lower_name}
 use Rattle.ats_explain.specs.declared.parts.Parts.{Parts}
 use Rattle.ats_explain.specs.declared.parts.Stay.{Stay}
 
--- how long a frame may have to stay behind a port by a row, and how long it may, in picoseconds, where the maximum
--- residence time there is so many nanoseconds; None where the port leads to a station
-abbrev pub stay_by : Port → Row → Option ℕ → Option Stay
-stay_by port row residence =
-    option_map (λ ns. record { need = residence_needed port row.wait; residence = PS_PER_NS * ns }) residence
+-- how long a frame may have to stay behind a port, and how long it may, in picoseconds, where the maximum residence
+-- time there is so many nanoseconds; None where the port leads to a station
+abbrev pub stay_by : ℕ → Option ℕ → Option Stay
+stay_by need residence = option_map (λ ns. record { need = need; residence = PS_PER_NS * ns }) residence
+
+-- so it is, by the clock behind a port, where a frame may have to wait so long at the port
+abbrev pub stay_behind : DeclaredNetwork → ℕ → ℕ → Option Stay
+stay_behind network port wait =
+    stay_by (need_behind network port wait) (residence_after network.topology port)
 
 -- the five parts of a row's bound at a port. lower: the longest lower frame; bursts: the bursts of the class and the
 -- higher ones, but for the shortest frame; higher: the rest of the wait; frame: the shortest frame; latency: the
--- port's. The name is that of the sender of the longest lower frame
-abbrev pub parts_by : Port → Row → Option (List ℕ) → Option ℕ → Parts
-parts_by port row sender residence = record {
+-- port's. The name is that of the sender of the longest lower frame; beside them stands the stay behind the port
+abbrev pub parts_by : Port → Row → Option (List ℕ) → Option Stay → Parts
+parts_by port row sender stay = record {
   lower = port.ps_per_bit * row.lower;
   sender = sender;
   bursts = port.ps_per_bit * (row.bursts - row.least);
@@ -34,14 +38,14 @@ parts_by port row sender residence = record {
   frame = port.ps_per_bit * row.least;
   latency = port.latency.0;
   bound = row.bound;
-  stay = stay_by port row residence;
+  stay = stay;
 }
 
 -- the parts of the least bound of a port and a class
 abbrev pub parts_at : DeclaredNetwork → ℕ → ℕ → Parts
 parts_at network port class =
     parts_by (port_at network.topology.ports port) (least_row network (port, class)) (lower_name network port class)
-    (residence_after network.topology port)
+    (stay_behind network port (least_row network (port, class)).wait)
 
 -- the parts of a hop: those of the port, in the class that the stream has there
 abbrev pub parts_of_hop : DeclaredNetwork → DeclaredStream → ℕ → Parts

@@ -16,7 +16,7 @@ pub record NamesFrom (network : DeclaredNetwork) (from : ℕ) (table : Table (Op
   pub count : table.ports ≡ length network.topology.ports
   pub each : (port class : ℕ) → port < length network.topology.ports → 1 ≤ class → class ≤ 7
       → value_at table port class
-      ≡ Some (name_of (find (sends_lower port class (port_sums network port class).lower)
+      ≡ Some (name_of (find (sends_lower network.topology port class (port_sums network port class).lower)
       (drop from (senders_of network))))
 
 -- at a port, the classes below one have this sender's name where its longest frame is the longest lower one

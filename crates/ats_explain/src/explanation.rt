@@ -22,7 +22,7 @@ ghost use Rattle.ats_explain.specs.Totals.{late_count, over_among, over_count, t
 use crate::loads::{load, uses};
 use crate::margin::{Margin, listener_of, margins_of, tightest};
 use crate::names::names_of;
-use crate::parts::Parts;
+use crate::parts::{Parts, stay_behind};
 use crate::rows::places_of;
 use crate::totals::{Tightest, Totals};
 use ats_bound::least_rows;
@@ -118,11 +118,12 @@ impl<'a> Explanation<'a> {
         ensures { result ≡ parts_at self.now port class }
     {
         let network = self.network();
+        let row = self.row(port, class);
         Parts::of(
             &network.topology().ports()[port as usize],
-            self.row(port, class),
+            row,
             self.names.get(port, class),
-            network.residence(port),
+            stay_behind(network, port, row.wait),
         )
     }
 
@@ -144,7 +145,7 @@ impl<'a> Explanation<'a> {
         uses(&self.tallies, port)
     }
 
-    /// The picoseconds of each second that the rates of the streams that have the port take.
+    /// The picoseconds of each second that the rates of the streams that have the port take, as it sees them.
     pub fn load(&self, port: u32) -> u128
         requires { port < length self.now.topology.ports }
         ensures { result ≡ port_load self.now port }

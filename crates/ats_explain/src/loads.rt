@@ -14,7 +14,7 @@ pub(crate) fn uses(tallies: &Tallies, port: u32) -> bool
     0 < rate(tallies, port)
 }
 
-// The picoseconds of each second that the rates of the streams that have the port take.
+// The picoseconds of each second that the rates of the streams that have the port take, as it sees them.
 pub(crate) fn load(tallies: &Tallies, port: u32) -> u128
     requires { port < length tallies.now.topology.ports }
     ensures { result ≡ port_load tallies.now port }
@@ -23,7 +23,7 @@ pub(crate) fn load(tallies: &Tallies, port: u32) -> u128
     u128::from(ports[port as usize].ps_per_bit) * u128::from(rate(tallies, port))
 }
 
-// These rates together, which are those of the class 1 and the classes above it.
+// These rates together, which are those that the port sees of the class 1 and the classes above it.
 fn rate(tallies: &Tallies, port: u32) -> u64
     requires { port < length tallies.now.topology.ports }
     ensures rate { result ≡ rate_at tallies.now port }

@@ -1,12 +1,14 @@
 //! The parts of a bound.
 
-ghost use Rattle.std.specs.Prelude.{◌≡◌, ◌≤◌};
+ghost use Rattle.std.specs.Prelude.{◌≡◌, ◌<◌, ◌≤◌, ◌^◌, length};
 ghost use Rattle.ats_certificate.specs.Form.{IsRow};
-ghost use Rattle.ats_explain.specs.Parts.{is_over, parts_by, stay_by};
+ghost use Rattle.ats_explain.specs.Parts.{is_over, parts_by, stay_behind};
 
 use ats_certificate::Row;
+use ats_network::Network;
 use ats_num::Name;
 use ats_num::time::PS_PER_NS;
+use ats_tally::need_behind;
 use ats_topology::Port;
 
 /// What makes the least bound of a port and a class, in picoseconds: five parts, which add up to it.
@@ -33,20 +35,20 @@ pub struct Parts {
 /// A frame's stay behind a port that leads to a bridge, in picoseconds.
 #[derive(Clone, Copy)]
 pub struct Stay {
-    /// How long it may have to be: the wait and the port's spread.
+    /// How long it may have to be, as the bridge's clock counts it: the wait and the port's spread.
     pub need: u128,
     /// How long it may be: the bridge's maximum residence time.
     pub residence: u128,
 }
 
 impl Parts {
-    /// The parts of a row's bound at its port, where this is the name of the sender of the longest lower frame, and the
-    /// maximum residence time behind the port is so many nanoseconds.
-    pub fn of(port: &Port, row: &Row, sender: Option<Name>, residence_ns: Option<u32>) -> Self
+    /// The parts of a row's bound at its port, where this is the name of the sender of the longest lower frame, and
+    /// this the stay behind the port.
+    pub fn of(port: &Port, row: &Row, sender: Option<Name>, stay: Option<Stay>) -> Self
         requires ps { port.now.ps_per_bit ≤ 100000 }
         requires form { IsRow row.now }
         requires bursts { row.now.bursts ≤ 8192000000000 }
-        ensures { result ≡ parts_by port.now row.now sender residence_ns }
+        ensures { result ≡ parts_by port.now row.now sender stay }
     {
         let ps = u128::from(port.ps_per_bit);
         let lower = ps * u128::from(row.lower);
@@ -59,7 +61,7 @@ impl Parts {
             frame: ps * u128::from(row.least),
             latency: u128::from(port.latency.0),
             bound: row.bound,
-            stay: stay_of(port, row, residence_ns),
+            stay,
         }
     }
 
@@ -74,14 +76,15 @@ impl Parts {
     }
 }
 
-// The stay behind a port by a row.
-fn stay_of(port: &Port, row: &Row, residence_ns: Option<u32>) -> Option<Stay>
-    requires { IsRow row.now }
-    ensures { result ≡ stay_by port.now row.now residence_ns }
+/// The stay behind a port, where a frame may have to wait so long at the port.
+pub(crate) fn stay_behind(network: &Network, port: u32, wait: u128) -> Option<Stay>
+    requires port { port < length network.now.topology.ports }
+    requires wait { wait < 10 ^ 36 }
+    ensures { result ≡ stay_behind network.now port wait }
 {
-    let residence_ns = residence_ns?;
+    let residence_ns = network.residence(port)?;
     Some(Stay {
-        need: row.wait + u128::from(port.spread()),
+        need: need_behind(network, port, wait),
         residence: u128::from(PS_PER_NS) * u128::from(residence_ns),
     })
 }

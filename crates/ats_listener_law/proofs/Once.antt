@@ -10,7 +10,7 @@ use Rattle.std.proofs.lemmas.List.Sums.{length-filter, sum_by-cons}
 use Rattle.ats_streams.specs.Branches.{leg_at, routes_of}
 use Rattle.ats_streams.specs.Stream.{DeclaredStream}
 use Rattle.ats_streams.proofs.BranchLemmas.{routes-length}
-use Rattle.ats_network.specs.Class.{seen_at}
+use Rattle.ats_network.specs.Class.{PortSender, seen_at}
 use Rattle.ats_network.specs.Sender.{Sender, stream_sender}
 use Rattle.ats_certificate.specs.Certificate.{bound_on}
 use Rattle.ats_certificate.specs.PortSums.{uses}
@@ -37,30 +37,33 @@ uses_its_ports port sender = (found port sender.ports, λ at. used at)
         list_any_at (λ p. p == port) sender.ports at.0 port at.1 (eq-eqb (get_or sender.ports at.0 port) port at.2)
 
 pub each_is_seen_once : EachIsSeenOnce
-each_is_seen_once port senders =
-    length-map (filter (uses port) senders) (seen_at port) ∙ length-filter (uses port) senders
+each_is_seen_once topology port senders =
+    length-map (filter (uses port) senders) (seen_at topology port) ∙ length-filter (uses port) senders
 
--- the rates of those that pass are summed up, and of the others nothing
-rates_of : (test : Sender → Bool) (streams : List DeclaredStream)
-    → sum_by (λ (s : Sender). s.rate) (filter test (map stream_sender streams))
-    ≡ sum_by (λ (s : DeclaredStream). cond (test (stream_sender s)) s.rate 0) streams
-rates_of test [] = refl
-rates_of test (s ∷ streams) =
-    by (test (stream_sender s)) (rates_of test streams)
-    ∙ sym (sum_by-cons (λ (t : DeclaredStream). cond (test (stream_sender t)) t.rate 0) s streams)
+-- the rates that are seen of those that pass are summed up, and of the others nothing
+rates_of : (seen : Sender → PortSender) (test : Sender → Bool) (streams : List DeclaredStream)
+    → sum_by (λ (s : PortSender). s.rate) (map seen (filter test (map stream_sender streams)))
+    ≡ sum_by (λ (s : DeclaredStream). cond (test (stream_sender s)) (seen (stream_sender s)).rate 0) streams
+rates_of seen test [] = refl
+rates_of seen test (s ∷ streams) =
+    by (test (stream_sender s)) (rates_of seen test streams) ∙ sym (sum_by-cons amount s streams)
   where
+    amount : DeclaredStream → ℕ
+    amount t = cond (test (stream_sender t)) (seen (stream_sender t)).rate 0
+
     rest : List Sender
     rest = filter test (map stream_sender streams)
 
-    by : (b : Bool) → sum_by (λ (t : Sender). t.rate) rest
-        ≡ sum_by (λ (t : DeclaredStream). cond (test (stream_sender t)) t.rate 0) streams
-        → sum_by (λ (t : Sender). t.rate) (cond b (stream_sender s ∷ rest) rest)
-        ≡ cond b s.rate 0 + sum_by (λ (t : DeclaredStream). cond (test (stream_sender t)) t.rate 0) streams
-    by true so_far = sum_by-cons (λ (t : Sender). t.rate) (stream_sender s) rest ∙ ap (λ (n : ℕ). s.rate + n) so_far
+    by : (b : Bool) → sum_by (λ (t : PortSender). t.rate) (map seen rest) ≡ sum_by amount streams
+        → sum_by (λ (t : PortSender). t.rate) (map seen (cond b (stream_sender s ∷ rest) rest))
+        ≡ cond b (seen (stream_sender s)).rate 0 + sum_by amount streams
+    by true so_far =
+        sum_by-cons (λ (t : PortSender). t.rate) (seen (stream_sender s)) (map seen rest)
+        ∙ ap (λ (n : ℕ). (seen (stream_sender s)).rate + n) so_far
     by false so_far = so_far ∙ (omega arith)
 
 pub rates_are_seen_once : RatesAreSeenOnce
-rates_are_seen_once network port = rates_of (uses port) network.streams
+rates_are_seen_once network port = rates_of (seen_at network.topology port) (uses port) network.streams
 
 -- a list that is not empty is its first element and the rest
 first_and_rest : (lists : List (List ℕ)) (n : ℕ) → length lists ≡ suc n → lists ≡ leg_at lists 0 ∷ drop 1 lists

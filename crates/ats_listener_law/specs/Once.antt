@@ -1,7 +1,9 @@
 use Rattle.std.specs.Prelude.{◌≡◌, ◌↔◌, ℕ, true, List, ◌∷◌, length, map, drop, Contains, count_by, sum_by}
 use Rattle.std.specs.Prelude.{if◌then◌else◌}
+use Rattle.ats_topology.specs.Topology.{DeclaredTopology}
 use Rattle.ats_streams.specs.Branches.{routes_of}
 use Rattle.ats_streams.specs.Stream.{DeclaredStream}
+use Rattle.ats_network.specs.Class.{seen_at}
 use Rattle.ats_network.specs.Network.{DeclaredNetwork}
 use Rattle.ats_network.specs.Sender.{Sender, stream_sender}
 use Rattle.ats_certificate.specs.Certificate.{bound_along, bound_on, sums_of}
@@ -15,14 +17,15 @@ UsesItsPorts = (port : ℕ) (sender : Sender) → (uses port sender ≡ true) �
 
 -- of senders a port sees each that uses it once
 abbrev pub EachIsSeenOnce : Type 0
-EachIsSeenOnce = (port : ℕ) (senders : List Sender)
-    → length (senders_at port senders) ≡ count_by (uses port) senders
+EachIsSeenOnce = (topology : DeclaredTopology) (port : ℕ) (senders : List Sender)
+    → length (senders_at topology port senders) ≡ count_by (uses port) senders
 
--- and of streams that use it the rate once
+-- and of streams that use it the rate there once
 abbrev pub RatesAreSeenOnce : Type 0
 RatesAreSeenOnce = (network : DeclaredNetwork) (port : ℕ)
     → rate_at network port
-    ≡ sum_by (λ (s : DeclaredStream). if uses port (stream_sender s) then s.rate else 0) network.streams
+    ≡ sum_by (λ (s : DeclaredStream). if uses port (stream_sender s)
+    then (seen_at network.topology port (stream_sender s)).rate else 0) network.streams
 
 -- the first sum of a stream is that of its trunk, and those along the routes to its further listeners follow
 abbrev pub FirstSumIsTheTrunks : Type 0

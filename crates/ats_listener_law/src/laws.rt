@@ -73,7 +73,7 @@ pub fn each_is_seen_once()
     ensures { EachIsSeenOnce }
 {}
 
-/// A law: and the load of a port has the rate of each stream that uses it once.
+/// A law: and the load of a port has the rate that it sees of each stream that uses it once.
 pub fn rates_are_seen_once()
     ensures { RatesAreSeenOnce }
 {}

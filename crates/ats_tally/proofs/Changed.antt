@@ -9,6 +9,7 @@ use Rattle.std.proofs.lemmas.Bool.{and_from, cases_eq, eq-eqb, ne_eqb, or_right}
 use Rattle.std.proofs.lemmas.List.{append-nil, get_or-take, get_or_default, length-take-le, take_more}
 use Rattle.std.proofs.lemmas.List.Folds.{list_any_more, list_any_none}
 use Rattle.ats_class_table.specs.Table.{IsFilled, Sets, Table, value_at}
+use Rattle.ats_topology.specs.Topology.{DeclaredTopology}
 use Rattle.ats_network.specs.Class.{PortSender, class_at, seen_at}
 use Rattle.ats_network.specs.Sender.{Sender}
 use Rattle.ats_certificate.specs.PortSums.{uses, senders_at}
@@ -100,47 +101,50 @@ module _ (given : ℕ → ℕ → Option Share) (s : Sender) (old now : Table Sh
           ∙ or_false (earlier p)))
 
 -- what a class makes at a port with a sender more, and without it
-pub share_at : (port class : ℕ) (front : List Sender) (s : Sender) (back : List Sender) (b : Bool)
+pub share_at : (topology : DeclaredTopology) (port class : ℕ) (front : List Sender) (s : Sender) (back : List Sender)
+    (b : Bool)
     → (uses port s && eqb (class_at s port) class) ≡ b
-    → share_of class (senders_at port (front ++ s ∷ back))
-    ≡ cond b (share_with (seen_at port s) (share_of class (senders_at port (front ++ back))))
-    (share_of class (senders_at port (front ++ back)))
-share_at port class front s back b is = by (uses port s) (eqb (class_at s port) class) refl refl
+    → share_of class (senders_at topology port (front ++ s ∷ back))
+    ≡ cond b (share_with (seen_at topology port s) (share_of class (senders_at topology port (front ++ back))))
+    (share_of class (senders_at topology port (front ++ back)))
+share_at topology port class front s back b is = by (uses port s) (eqb (class_at s port) class) refl refl
   where
     seen : PortSender
-    seen = seen_at port s
+    seen = seen_at topology port s
 
     xs : List PortSender
-    xs = senders_at port front
+    xs = senders_at topology port front
 
     ys : List PortSender
-    ys = senders_at port back
+    ys = senders_at topology port back
 
     by : (u v : Bool) → uses port s ≡ u → eqb (class_at s port) class ≡ v
-        → share_of class (senders_at port (front ++ s ∷ back))
-        ≡ cond b (share_with seen (share_of class (senders_at port (front ++ back))))
-        (share_of class (senders_at port (front ++ back)))
+        → share_of class (senders_at topology port (front ++ s ∷ back))
+        ≡ cond b (share_with seen (share_of class (senders_at topology port (front ++ back))))
+        (share_of class (senders_at topology port (front ++ back)))
     by true v used of =
         let same : b ≡ v = sym is ∙ ap (λ (u : Bool). u && eqb (class_at s port) class) used ∙ of in
-        ap (share_of class) (at_more port front s back ∙ ap (λ (u : Bool). xs ++ cond u (seen ∷ ys) ys) used)
+        ap (share_of class) (at_more topology port front s back ∙ ap (λ (u : Bool). xs ++ cond u (seen ∷ ys) ys) used)
         ∙ share_in class xs seen ys v of
         ∙ ap (λ (t : Bool). cond t (share_with seen (share_of class (xs ++ ys))) (share_of class (xs ++ ys))) (sym same)
         ∙ sym (ap (λ (l : List PortSender). cond b (share_with seen (share_of class l)) (share_of class l))
-        (senders_at-append port front back))
+        (senders_at-append topology port front back))
     by false v used of =
         let none : b ≡ false = sym is ∙ ap (λ (u : Bool). u && eqb (class_at s port) class) used in
-        ap (share_of class) (sym (at_same port front s back used))
-        ∙ ap (λ (t : Bool). cond t (share_with seen (share_of class (senders_at port (front ++ back))))
-        (share_of class (senders_at port (front ++ back)))) (sym none)
+        ap (share_of class) (sym (at_same topology port front s back used))
+        ∙ ap (λ (t : Bool). cond t (share_with seen (share_of class (senders_at topology port (front ++ back))))
+        (share_of class (senders_at topology port (front ++ back)))) (sym none)
 
 -- no sender is counted at first
-pub shares_none : (ports : ℕ) (shares : Table Share) → IsFilled ports no_share shares → AreSharesAt ports [] shares
-shares_none ports shares filled = record { count = filled.count; each = filled.each }
+pub shares_none : (topology : DeclaredTopology) (shares : Table Share)
+    → IsFilled (length topology.ports) no_share shares → AreSharesAt topology [] shares
+shares_none topology shares filled = record { count = filled.count; each = filled.each }
 
-module _ (ports : ℕ) (front : List Sender) (s : Sender) (back : List Sender) (old now : Table Share) where
+module _ (topology : DeclaredTopology) (front : List Sender) (s : Sender) (back : List Sender)
+    (old now : Table Share) where
   -- the shares with a sender that enters along its path
-  pub entered_are : AreSharesAt ports (front ++ back) old → Enters s old now
-      → AreSharesAt ports (front ++ s ∷ back) now
+  pub entered_are : AreSharesAt topology (front ++ back) old → Enters topology s old now
+      → AreSharesAt topology (front ++ s ∷ back) now
   entered_are before enters = record {
     count = enters.count ∙ before.count;
     each = λ port class within most. enters.each port class
@@ -148,17 +152,19 @@ module _ (ports : ℕ) (front : List Sender) (s : Sender) (back : List Sender) (
   }
     where
       by : (port class : ℕ) (b : Bool) → (uses port s && eqb (class_at s port) class) ≡ b
-          → value_at old port class ≡ Some (share_of class (senders_at port (front ++ back)))
-          → cond b (option_map (share_with (seen_at port s)) (value_at old port class)) (value_at old port class)
-          ≡ Some (share_of class (senders_at port (front ++ s ∷ back)))
+          → value_at old port class ≡ Some (share_of class (senders_at topology port (front ++ back)))
+          → cond b (option_map (share_with (seen_at topology port s)) (value_at old port class))
+          (value_at old port class)
+          ≡ Some (share_of class (senders_at topology port (front ++ s ∷ back)))
       by port class true is was =
-          ap (option_map (share_with (seen_at port s))) was ∙ ap Some (sym (share_at port class front s back true is))
-      by port class false is was = was ∙ ap Some (sym (share_at port class front s back false is))
+          ap (option_map (share_with (seen_at topology port s))) was
+          ∙ ap Some (sym (share_at topology port class front s back true is))
+      by port class false is was = was ∙ ap Some (sym (share_at topology port class front s back false is))
 
   -- and those without one that leaves
-  pub left_are : AreSharesAt ports (front ++ s ∷ back) old
-      → ChangesAlong (λ port class. Some (share_of class (senders_at port (front ++ back)))) s s.ports old now
-      → AreSharesAt ports (front ++ back) now
+  pub left_are : AreSharesAt topology (front ++ s ∷ back) old
+      → ChangesAlong (λ port class. Some (share_of class (senders_at topology port (front ++ back)))) s s.ports old now
+      → AreSharesAt topology (front ++ back) now
   left_are before changes = record {
     count = changes.count ∙ before.count;
     each = λ port class within most. changes.each port class
@@ -166,26 +172,27 @@ module _ (ports : ℕ) (front : List Sender) (s : Sender) (back : List Sender) (
   }
     where
       by : (port class : ℕ) (b : Bool) → (uses port s && eqb (class_at s port) class) ≡ b
-          → value_at old port class ≡ Some (share_of class (senders_at port (front ++ s ∷ back)))
-          → cond b (Some (share_of class (senders_at port (front ++ back)))) (value_at old port class)
-          ≡ Some (share_of class (senders_at port (front ++ back)))
+          → value_at old port class ≡ Some (share_of class (senders_at topology port (front ++ s ∷ back)))
+          → cond b (Some (share_of class (senders_at topology port (front ++ back)))) (value_at old port class)
+          ≡ Some (share_of class (senders_at topology port (front ++ back)))
       by port class true is was = refl
-      by port class false is was = was ∙ ap Some (share_at port class front s back false is)
+      by port class false is was = was ∙ ap Some (share_at topology port class front s back false is)
 
   -- what the share of a leaving sender is before
-  pub share_before : AreSharesAt ports (front ++ s ∷ back) old → (port class : ℕ) → port < ports → class ≤ 7
+  pub share_before : AreSharesAt topology (front ++ s ∷ back) old → (port class : ℕ) → port < length topology.ports
+      → class ≤ 7
       → uses port s ≡ true → class_at s port ≡ class → value_at old port class
-      ≡ Some (share_with (seen_at port s) (share_of class (senders_at port (front ++ back))))
+      ≡ Some (share_with (seen_at topology port s) (share_of class (senders_at topology port (front ++ back))))
   share_before before port class within most used of =
       before.each port class within most
-      ∙ ap Some (share_at port class front s back true
+      ∙ ap Some (share_at topology port class front s back true
       (ap (λ (u : Bool). u && eqb (class_at s port) class) used ∙ eq-eqb (class_at s port) class of))
 
 -- with the next sender of a list
-pub entered_next : (ports : ℕ) (senders : List Sender) (i : ℕ) (d : Sender) (old now : Table Share)
-    → i < length senders → AreSharesAt ports (take i senders) old → Enters (get_or senders i d) old now
-    → AreSharesAt ports (take (i + 1) senders) now
-entered_next ports senders i d old now within before enters =
-    subst (λ (l : List Sender). AreSharesAt ports l now) (sym (take_more senders i d within))
-    (entered_are ports (take i senders) (get_or senders i d) [] old now
-    (subst (λ (l : List Sender). AreSharesAt ports l old) (sym (append-nil (take i senders))) before) enters)
+pub entered_next : (topology : DeclaredTopology) (senders : List Sender) (i : ℕ) (d : Sender) (old now : Table Share)
+    → i < length senders → AreSharesAt topology (take i senders) old → Enters topology (get_or senders i d) old now
+    → AreSharesAt topology (take (i + 1) senders) now
+entered_next topology senders i d old now within before enters =
+    subst (λ (l : List Sender). AreSharesAt topology l now) (sym (take_more senders i d within))
+    (entered_are topology (take i senders) (get_or senders i d) [] old now
+    (subst (λ (l : List Sender). AreSharesAt topology l old) (sym (append-nil (take i senders))) before) enters)

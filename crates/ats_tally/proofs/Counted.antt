@@ -7,6 +7,7 @@ use Rattle.std.proofs.lemmas.Bool.{cases_Bool, cases_eq}
 use Rattle.std.proofs.lemmas.List.Folds.{list_any_none, list_any-append}
 use Rattle.std.proofs.lemmas.Option.{slice_get-get_or}
 use Rattle.ats_class_table.specs.Table.{Sets, Table, value_at}
+use Rattle.ats_topology.specs.Topology.{DeclaredTopology}
 use Rattle.ats_network.specs.Sender.{Sender, stream_sender, flow_sender}
 use Rattle.ats_network.specs.Class.{PortSender}
 use Rattle.ats_network.specs.Network.{DeclaredNetwork, IsNetwork, senders_of}
@@ -44,38 +45,40 @@ set_more port class tallies old now next tally within is sets before = record {
         sets.others port k (inr other) ∙ before.here k (omega (arith, below, differ))
 
 -- the tallies of the ports below one are there
-pub record AreBelow (ports below : ℕ) (senders : List Sender) (tallies : Table Tally) : Type 0 where
-  pub count : tallies.ports ≡ ports
+pub record AreBelow (topology : DeclaredTopology) (below : ℕ) (senders : List Sender)
+    (tallies : Table Tally) : Type 0 where
+  pub count : tallies.ports ≡ length topology.ports
   pub each : (port class : ℕ) → port < below → 1 ≤ class → class ≤ 7
-      → IsTallied class (senders_at port senders) (value_at tallies port class)
+      → IsTallied class (senders_at topology port senders) (value_at tallies port class)
 
-pub below_none : (ports : ℕ) (senders : List Sender) (tallies : Table Tally) → tallies.ports ≡ ports
-    → AreBelow ports 0 senders tallies
-below_none ports senders tallies count =
+pub below_none : (topology : DeclaredTopology) (senders : List Sender) (tallies : Table Tally)
+    → tallies.ports ≡ length topology.ports → AreBelow topology 0 senders tallies
+below_none topology senders tallies count =
     record { count = count; each = λ port class below least most. absurd (omega arith) }
 
-pub below_more : (ports port : ℕ) (senders : List Sender) (old new : Table Tally) (tallies : List Tally)
-    → AreBelow ports port senders old → AreClassTallies (senders_at port senders) tallies
-    → SetsTallies port 8 tallies old new → AreBelow ports (port + 1) senders new
-below_more ports port senders old new tallies before are sets = record {
+pub below_more : (topology : DeclaredTopology) (port : ℕ) (senders : List Sender) (old new : Table Tally)
+    (tallies : List Tally)
+    → AreBelow topology port senders old → AreClassTallies (senders_at topology port senders) tallies
+    → SetsTallies port 8 tallies old new → AreBelow topology (port + 1) senders new
+below_more topology port senders old new tallies before are sets = record {
   count = sets.count ∙ before.count;
   each = λ p class below least most. by p class below least most (cases_eq p port);
 }
   where
     by : (p class : ℕ) → p < port + 1 → 1 ≤ class → class ≤ 7 → (p ≡ port) ⊎ (p ≡ port → ⊥)
-        → IsTallied class (senders_at p senders) (value_at new p class)
+        → IsTallied class (senders_at topology p senders) (value_at new p class)
     by p class below least most (inl e) =
-        subst (λ (n : ℕ). IsTallied class (senders_at n senders) (value_at new n class)) (sym e)
-        (subst (IsTallied class (senders_at port senders)) (sym (sets.here class (omega (arith, most))))
+        subst (λ (n : ℕ). IsTallied class (senders_at topology n senders) (value_at new n class)) (sym e)
+        (subst (IsTallied class (senders_at topology port senders)) (sym (sets.here class (omega (arith, most))))
         (are class least most))
     by p class below least most (inr other) =
         let differ : p ≢ port = other in
-        subst (IsTallied class (senders_at p senders)) (sym (sets.others p class other))
+        subst (IsTallied class (senders_at topology p senders)) (sym (sets.others p class other))
         (before.each p class (omega (arith, below, differ)) least most)
 
-pub below_all : (ports below : ℕ) (senders : List Sender) (tallies : Table Tally) → ports ≤ below
-    → AreBelow ports below senders tallies → AreTallies ports senders tallies
-below_all ports below senders tallies all are = record {
+pub below_all : (topology : DeclaredTopology) (below : ℕ) (senders : List Sender) (tallies : Table Tally)
+    → length topology.ports ≤ below → AreBelow topology below senders tallies → AreTallies topology senders tallies
+below_all topology below senders tallies all are = record {
   count = are.count;
   each = λ port class within least most. are.each port class (omega (arith, within, all)) least most;
 }
@@ -104,18 +107,20 @@ known_any class (s ∷ senders) = by (is_of class s) (known_any class senders)
     by false h = h
 
 pub used_is : (network : DeclaredNetwork) (port class : ℕ) (tally : Tally) → 1 ≤ class
-    → IsTally class (senders_at port (senders_of network)) tally → is_some tally.least ≡ is_used network port class
+    → IsTally class (senders_at network.topology port (senders_of network)) tally → is_some tally.least
+    ≡ is_used network port class
 used_is network port class tally shaped h =
     let streams : List Sender = map stream_sender network.streams in
     let flows : List Sender = map flow_sender network.flows in
-    let none : list_any (is_of class) (senders_at port flows) ≡ false =
-    list_any_none (is_of class) (senders_at port flows) (flows_class port class network.flows shaped) in
+    let none : list_any (is_of class) (senders_at network.topology port flows) ≡ false =
+    list_any_none (is_of class) (senders_at network.topology port flows)
+    (flows_class network.topology port class network.flows shaped) in
     ap (λ (o : Option ℕ). is_some o) h.least
-    ∙ known_any class (senders_at port (senders_of network))
-    ∙ ap (list_any (is_of class)) (senders_at-append port streams flows)
-    ∙ list_any-append (is_of class) (senders_at port streams) (senders_at port flows)
-    ∙ ap (λ (b : Bool). list_any (is_of class) (senders_at port streams) || b) none
-    ∙ or_no (list_any (is_of class) (senders_at port streams))
+    ∙ known_any class (senders_at network.topology port (senders_of network))
+    ∙ ap (list_any (is_of class)) (senders_at-append network.topology port streams flows)
+    ∙ list_any-append (is_of class) (senders_at network.topology port streams) (senders_at network.topology port flows)
+    ∙ ap (λ (b : Bool). list_any (is_of class) (senders_at network.topology port streams) || b) none
+    ∙ or_no (list_any (is_of class) (senders_at network.topology port streams))
   where
     or_no : (b : Bool) → (b || false) ≡ b
     or_no true = refl

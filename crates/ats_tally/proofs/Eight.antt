@@ -6,6 +6,7 @@ use Rattle.std.proofs.lemmas.Grind.{get_or-set_at}
 use Rattle.std.proofs.lemmas.List.{get_or-set_other}
 use Rattle.std.proofs.lemmas.Option.{slice_get-get_or}
 use Rattle.ats_class_table.specs.Table.{AreValuesAt, Table}
+use Rattle.ats_topology.specs.Topology.{DeclaredTopology}
 use Rattle.ats_network.specs.Class.{PortSender}
 use Rattle.ats_network.specs.Network.{DeclaredNetwork, IsNetwork, senders_of}
 use Rattle.ats_network.specs.Sender.{Sender}
@@ -30,14 +31,15 @@ got_else xs i k x within other =
     ∙ sym (slice_get-get_or xs k x within)
 
 -- the values at a port are the shares of its classes
-pub eight_are : (ports : ℕ) (senders : List Sender) (shares : Table Share) (port : ℕ) (eight : List Share)
-    → AreSharesAt ports senders shares → port < ports → AreValuesAt shares port eight
-    → AreShares (senders_at port senders) eight
-eight_are ports senders shares port eight are within at class most =
+pub eight_are : (topology : DeclaredTopology) (senders : List Sender) (shares : Table Share) (port : ℕ)
+    (eight : List Share)
+    → AreSharesAt topology senders shares → port < length topology.ports → AreValuesAt shares port eight
+    → AreShares (senders_at topology port senders) eight
+eight_are topology senders shares port eight are within at class most =
     at.each class most ∙ are.each port class within most
 
 -- a port sees each sender in a class of at most 7
 pub classes_seen : (network : DeclaredNetwork) (port : ℕ) → IsNetwork network
-    → All (λ (s : PortSender). s.class ≤ 7) (senders_at port (senders_of network))
+    → All (λ (s : PortSender). s.class ≤ 7) (senders_at network.topology port (senders_of network))
 classes_seen network port is k d inside =
     (all_seen network.topology port (senders_of network) (each_is_sender network is) k d inside).class

@@ -3,6 +3,7 @@ use Rattle.std.proofs.Common.{◌≡◌, ℕ, ◌+◌, ◌<◌, ◌≤◌, List,
 use Rattle.std.proofs.Common.{arith}
 use Rattle.std.specs.Option.{option_map}
 use Rattle.ats_class_table.specs.Table.{Sets, Table, value_at}
+use Rattle.ats_topology.specs.Topology.{DeclaredTopology}
 use Rattle.ats_network.specs.Class.{PortSender, seen_at}
 use Rattle.ats_network.specs.Network.{DeclaredNetwork}
 use Rattle.ats_network.specs.Sender.{Sender}
@@ -19,11 +20,12 @@ pub record IsEntry (network : DeclaredNetwork) (s : Sender) (port hop : ℕ) (se
   pub within : hop < length s.ports
   pub at : port ≡ get_or s.ports hop 0
   pub inside : port < length network.topology.ports
-  pub is : seen ≡ seen_at port s
+  pub is : seen ≡ seen_at network.topology port s
   pub most : seen.class ≤ 7
 
 pub entry_is : (network : DeclaredNetwork) (s : Sender) (listed : List ℕ) (hop : ℕ) (seen : PortSender)
-    → IsSender network.topology s → listed ≡ s.ports → hop < length listed → seen ≡ seen_at (get_or s.ports hop 0) s
+    → IsSender network.topology s → listed ≡ s.ports → hop < length listed
+    → seen ≡ seen_at network.topology (get_or s.ports hop 0) s
     → IsEntry network s (get_or listed hop 0) hop seen
 entry_is network s listed hop seen keeps same within is =
     let inside : hop < length s.ports = subst (λ (l : List ℕ). hop < length l) same within in
@@ -33,13 +35,13 @@ entry_is network s listed hop seen keeps same within is =
       within = inside;
       at = at;
       inside = omega (arith, at, keeps.ports hop 0 inside);
-      is = is ∙ ap (λ (p : ℕ). seen_at p s) (sym at);
+      is = is ∙ ap (λ (p : ℕ). seen_at network.topology p s) (sym at);
       most = omega (arith, ap (λ (t : PortSender). t.class) is, class_at-le s (get_or s.ports hop 0) keeps.classes);
     }
 
 -- what is given where a sender is counted
-abbrev pub counted : Sender → Table Share → ℕ → ℕ → Option Share
-counted s old port class = option_map (share_with (seen_at port s)) (value_at old port class)
+abbrev pub counted : DeclaredTopology → Sender → Table Share → ℕ → ℕ → Option Share
+counted topology s old port class = option_map (share_with (seen_at topology port s)) (value_at old port class)
 
 module _ (network : DeclaredNetwork) (s : Sender) (port hop : ℕ) (seen : PortSender) (old now : Table Share) where
   -- its share is as it was until then, and has room
@@ -65,16 +67,18 @@ module _ (network : DeclaredNetwork) (s : Sender) (port hop : ℕ) (seen : PortS
 
   -- so it is where the sender is counted there
   pub entry_counted : (next : Table Share) (share value : Share) → IsEntry network s port hop seen
-      → ChangesAlong (counted s old) s (take hop s.ports) old now → value_at now port seen.class ≡ Some share
+      → ChangesAlong (counted network.topology s old) s (take hop s.ports) old now
+      → value_at now port seen.class ≡ Some share
       → value ≡ share_with seen share → Sets port seen.class value now next
-      → ChangesAlong (counted s old) s (take (hop + 1) s.ports) old next
+      → ChangesAlong (counted network.topology s old) s (take (hop + 1) s.ports) old next
   entry_counted next share value entry before there is sets =
-      entry_changed (counted s old) next value entry before
-      (ap (option_map (share_with (seen_at port s))) (sym (same_until (counted s old) entry before) ∙ there)
+      entry_changed (counted network.topology s old) next value entry before
+      (ap (option_map (share_with (seen_at network.topology port s)))
+      (sym (same_until (counted network.topology s old) entry before) ∙ there)
       ∙ ap (λ (t : PortSender). Some (share_with t share)) (sym entry.is) ∙ ap Some (sym is))
       sets
 
 -- a whole path is walked
-pub entered_all : (s : Sender) (old now : Table Share) → ChangesAlong (counted s old) s s.ports old now
-    → Enters s old now
-entered_all s old now changes = record { count = changes.count; each = changes.each }
+pub entered_all : (topology : DeclaredTopology) (s : Sender) (old now : Table Share)
+    → ChangesAlong (counted topology s old) s s.ports old now → Enters topology s old now
+entered_all topology s old now changes = record { count = changes.count; each = changes.each }

@@ -12,6 +12,7 @@ pub mod Eight
 pub mod ShareLemmas
 pub mod Counted
 pub mod Placed
+pub mod NeedParts
 pub mod Along
 pub mod Paths
 pub mod ListenerLemmas

@@ -35,33 +35,34 @@ few_senders network is =
 
 -- what the first senders of a network, of those that use a port, make of a class
 pub first_within : (network : DeclaredNetwork) (port class i : ℕ) (tally : Tally) → IsNetwork network → 1 ≤ class
-    → IsTally class (senders_at port (take i (senders_of network))) tally → IsWithin MAX_SENDERS tally
+    → IsTally class (senders_at network.topology port (take i (senders_of network))) tally → IsWithin MAX_SENDERS tally
 first_within network port class i tally is shaped h =
     let first : List Sender = take i (senders_of network) in
-    tally_within class (senders_at port first) tally shaped
+    tally_within class (senders_at network.topology port first) tally shaped
     (all_seen network.topology port first
     (All-take (IsSender network.topology) i (senders_of network) (each_is_sender network is)))
-    (omega (arith, few_at port first, length-take i (senders_of network), few_senders network is)) h
+    (omega (arith, few_at network.topology port first, length-take i (senders_of network), few_senders network is)) h
 
 -- and what all of them make of it
 pub all_within : (network : DeclaredNetwork) (port class : ℕ) (tally : Tally) → IsNetwork network → 1 ≤ class
-    → IsTally class (senders_at port (senders_of network)) tally → IsWithin MAX_SENDERS tally
+    → IsTally class (senders_at network.topology port (senders_of network)) tally → IsWithin MAX_SENDERS tally
 all_within network port class tally is shaped h =
-    tally_within class (senders_at port (senders_of network)) tally shaped
+    tally_within class (senders_at network.topology port (senders_of network)) tally shaped
     (all_seen network.topology port (senders_of network) (each_is_sender network is))
-    (omega (arith, few_at port (senders_of network), few_senders network is)) h
+    (omega (arith, few_at network.topology port (senders_of network), few_senders network is)) h
 
 -- a sender that uses the port is counted next, and one that does not is left out
 pub count_more : (network : DeclaredNetwork) (port class i : ℕ) (tally : Tally) → i < length (senders_of network)
-    → IsTally class (senders_at port (take i (senders_of network))) tally
-    → IsTally class (senders_at port (take (i + 1) (senders_of network)))
-    (cond (uses port (sender_at network i)) (tally_with class (seen_at port (sender_at network i)) tally) tally)
+    → IsTally class (senders_at network.topology port (take i (senders_of network))) tally
+    → IsTally class (senders_at network.topology port (take (i + 1) (senders_of network)))
+    (cond (uses port (sender_at network i))
+    (tally_with class (seen_at network.topology port (sender_at network i)) tally) tally)
 count_more network port class i tally within h =
-    let senders : List PortSender = senders_at port (take i (senders_of network)) in
-    let seen : PortSender = seen_at port (sender_at network i) in
+    let senders : List PortSender = senders_at network.topology port (take i (senders_of network)) in
+    let seen : PortSender = seen_at network.topology port (sender_at network i) in
     let used : Bool = uses port (sender_at network i) in
     subst (λ (ss : List PortSender). IsTally class ss (cond used (tally_with class seen tally) tally))
-    (sym (senders_at-more port (senders_of network) i no_sender within)) (by senders seen used h)
+    (sym (senders_at-more network.topology port (senders_of network) i no_sender within)) (by senders seen used h)
   where
     by : (senders : List PortSender) (seen : PortSender) (b : Bool) → IsTally class senders tally
         → IsTally class (senders ++ cond b (seen ∷ []) []) (cond b (tally_with class seen tally) tally)

@@ -36,7 +36,8 @@ pub record IsPlace (network : DeclaredNetwork) (port class : ℕ) : Type 0 where
   pub least : 1 ≤ class
   pub most : class ≤ 7
   pub is_port : IsPort (length network.topology.nodes) (port_at network.topology.ports port)
-  pub rate : 1 ≤ sum_where (is_of class) (λ (s : PortSender). s.rate) (senders_at port (senders_of network))
+  pub rate : 1 ≤ sum_where (is_of class) (λ (s : PortSender). s.rate)
+      (senders_at network.topology port (senders_of network))
 
 listed_class : (i : ℕ) (d : ℕ) → i < 7 → get_or stream_classes i d ≡ i + 1
 listed_class zero d h = refl
@@ -147,9 +148,10 @@ port_used network port s is used =
     used
 
 ports_used : (network : DeclaredNetwork) (port : ℕ) (senders : List Sender) → All (IsSender network.topology) senders
-    → All (λ (s : PortSender). port < length network.topology.ports) (senders_at port senders)
+    → All (λ (s : PortSender). port < length network.topology.ports) (senders_at network.topology port senders)
 ports_used network port senders all =
-    All-map (λ (s : PortSender). port < length network.topology.ports) (seen_at port) (filter (uses port) senders)
+    All-map (λ (s : PortSender). port < length network.topology.ports) (seen_at network.topology port)
+    (filter (uses port) senders)
     (λ k d h. port_used network port (get_or (filter (uses port) senders) k d)
     (All-filter (uses port) (IsSender network.topology) senders all k d h) (filter_passes (uses port) senders k d h))
 
@@ -168,28 +170,29 @@ any_sum {X} test amount (x ∷ xs) all any =
 
 -- some stream of the class uses the port, so some sender does
 pub used_by_sender : (network : DeclaredNetwork) (port class : ℕ) → is_used network port class ≡ true
-    → list_any (is_of class) (senders_at port (senders_of network)) ≡ true
+    → list_any (is_of class) (senders_at network.topology port (senders_of network)) ≡ true
 used_by_sender network port class used =
     let streams : List Sender = map stream_sender network.streams in
     let flows : List Sender = map flow_sender network.flows in
-    ap (list_any (is_of class)) (senders_at-append port streams flows)
-    ∙ list_any-append (is_of class) (senders_at port streams) (senders_at port flows)
-    ∙ or_left (list_any (is_of class) (senders_at port streams)) (list_any (is_of class) (senders_at port flows)) used
+    ap (list_any (is_of class)) (senders_at-append network.topology port streams flows)
+    ∙ list_any-append (is_of class) (senders_at network.topology port streams) (senders_at network.topology port flows)
+    ∙ or_left (list_any (is_of class) (senders_at network.topology port streams))
+    (list_any (is_of class) (senders_at network.topology port flows)) used
 
 pub used_class : (network : DeclaredNetwork) (port class : ℕ) → IsNetwork network
     → is_used network port class ≡ true → 1 ≤ class
 used_class network port class is used =
-    let seen : List PortSender = senders_at port (map stream_sender network.streams) in
+    let seen : List PortSender = senders_at network.topology port (map stream_sender network.streams) in
     any_gives (is_of class) (1 ≤ class) seen
     (λ k d h e. (
-    let least = streams_class port network.streams is.streams k d h in
+    let least = streams_class network.topology port network.streams is.streams k d h in
     omega (arith, least, eqb-true (get_or seen k d).class class e)))
     used
 
 pub is_place : (network : DeclaredNetwork) (port class : ℕ) → IsNetwork network → is_used network port class ≡ true
     → IsPlace network port class
 is_place network port class is used =
-    let senders : List PortSender = senders_at port (senders_of network) in
+    let senders : List PortSender = senders_at network.topology port (senders_of network) in
     let all : All IsSeen senders = all_seen network.topology port (senders_of network) (each_is_sender network is) in
     let any : list_any (is_of class) senders ≡ true = used_by_sender network port class used in
     let least : 1 ≤ class = used_class network port class is used in

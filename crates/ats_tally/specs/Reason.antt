@@ -1,13 +1,12 @@
 use Rattle.std.specs.Prelude.{ℕ, ◌+◌, ◌*◌, ◌<◌, nat_lt, List, [], ◌∷◌, length, Option, Some, None, if◌then◌else◌}
 use Rattle.std.specs.Option.{option_or}
 use Rattle.ats_num.specs.declared.time.TheConstants.{PS_PER_SECOND, PS_PER_NS}
-use Rattle.ats_topology.specs.Port.{port_at}
 use Rattle.ats_topology.specs.Topology.{DeclaredTopology}
 use Rattle.ats_streams.specs.Stream.{DeclaredStream}
 use Rattle.ats_network.specs.Network.{DeclaredNetwork}
 use Rattle.ats_network.specs.Residence.{residence_after}
 use Rattle.ats_network.specs.Listeners.{Listener, listeners_of}
-use Rattle.ats_certificate.specs.Certificate.{bound_on, residence_needed}
+use Rattle.ats_certificate.specs.Certificate.{bound_on, need_behind}
 use Rattle.ats_certificate.specs.declared.row.Row.{Row}
 use Rattle.ats_tally.specs.declared.reason.Reason.{Reason}
 use Rattle.ats_tally.specs.declared.reason.Reason.TheVariants.{Overloaded, Residence, Deadline}
@@ -31,9 +30,9 @@ overstay_by row need None = None
 overstay_by row need (Some residence_ns) =
     if nat_lt (PS_PER_NS * residence_ns) need then Some (Residence row.port row.class need) else None
 
--- how long a frame may have to stay behind a row's port
+-- how long a frame may have to stay behind a row's port, by the clock there
 abbrev pub row_need : DeclaredNetwork → Row → ℕ
-row_need network row = residence_needed (port_at network.topology.ports row.port) row.wait
+row_need network row = need_behind network row.port row.wait
 
 abbrev pub overstay : DeclaredNetwork → Row → Option Reason
 overstay network row = overstay_by row (row_need network row) (residence_after network.topology row.port)

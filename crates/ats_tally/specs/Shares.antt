@@ -3,6 +3,7 @@ use Rattle.std.specs.Prelude.{length, slice_get}
 use Rattle.std.specs.Option.{option_map}
 use Rattle.ats_num.specs.declared.rate.TheConstants.{MAX_BPS, MAX_BURST_BITS}
 use Rattle.ats_class_table.specs.Table.{Table, value_at}
+use Rattle.ats_topology.specs.Topology.{DeclaredTopology}
 use Rattle.ats_network.specs.Class.{PortSender, class_at, seen_at}
 use Rattle.ats_network.specs.Network.{DeclaredNetwork, senders_of}
 use Rattle.ats_network.specs.Sender.{Sender}
@@ -37,21 +38,22 @@ share_of class senders = record {
 abbrev pub AreShares : List PortSender → List Share → Type 0
 AreShares senders shares = (class : ℕ) → class ≤ 7 → slice_get shares class ≡ Some (share_of class senders)
 
--- a table has what these senders make of each class from 0 to 7 at so many ports
-pub record AreSharesAt (ports : ℕ) (senders : List Sender) (shares : Table Share) : Type 0 where
-  pub count : shares.ports ≡ ports
-  pub each : (port class : ℕ) → port < ports → class ≤ 7
-      → value_at shares port class ≡ Some (share_of class (senders_at port senders))
+-- a table has what these senders make of each class from 0 to 7 at each port of a topology
+pub record AreSharesAt (topology : DeclaredTopology) (senders : List Sender) (shares : Table Share) : Type 0 where
+  pub count : shares.ports ≡ length topology.ports
+  pub each : (port class : ℕ) → port < length topology.ports → class ≤ 7
+      → value_at shares port class ≡ Some (share_of class (senders_at topology port senders))
 
 -- the shares are those of a network's senders at each of its ports
 abbrev pub AreSharesOf : DeclaredNetwork → Table Share → Type 0
-AreSharesOf network = AreSharesAt (length network.topology.ports) (senders_of network)
+AreSharesOf network = AreSharesAt network.topology (senders_of network)
 
 -- a sender is counted in the share of its class at each port that it uses; all other shares stay
-pub record Enters (s : Sender) (old new : Table Share) : Type 0 where
+pub record Enters (topology : DeclaredTopology) (s : Sender) (old new : Table Share) : Type 0 where
   pub count : new.ports ≡ old.ports
   pub each : (port class : ℕ) → value_at new port class ≡ (
-      if uses port s && class_at s port == class then option_map (share_with (seen_at port s)) (value_at old port class)
+      if uses port s && class_at s port == class
+      then option_map (share_with (seen_at topology port s)) (value_at old port class)
       else value_at old port class)
 
 -- no more than so many senders can make

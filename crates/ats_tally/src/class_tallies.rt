@@ -16,7 +16,7 @@ use ats_network::Network;
 pub fn tallies_at(shares: &PortClassTable<Share>, network: &Network, port: u32) -> [Tally; CLASSES]
     requires port { port < length network.now.topology.ports }
     requires shares { AreSharesOf network.now shares.now }
-    ensures { AreClassTallies (senders_at port (senders_of network.now)) result }
+    ensures { AreClassTallies (senders_at network.now.topology port (senders_of network.now)) result }
 {
     let _rules = network.topology(); // for what a network keeps
     tallies_of(shares.values_at(port))

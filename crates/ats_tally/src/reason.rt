@@ -14,14 +14,14 @@ pub enum Reason {
         /// The part of a second that they take, in picoseconds.
         load: u128,
     },
-    /// The wait and the port's spread are longer than the maximum residence time of the bridge
-    /// behind the port.
+    /// The wait and the port's spread are, by the clock of the bridge behind the port, longer than the maximum
+    /// residence time there.
     Residence {
         /// The number of the port.
         port: u32,
         /// The class.
         class: u8,
-        /// The wait plus the spread, in picoseconds.
+        /// The wait plus the spread, in picoseconds, as the bridge's clock counts them.
         need: u128,
     },
     /// The bounds along the route to a listener of a stream are together over the stream's deadline.

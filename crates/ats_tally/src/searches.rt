@@ -8,6 +8,7 @@ ghost use Rattle.ats_tally.specs.Listeners.{listener_at};
 ghost use Rattle.ats_tally.specs.Reason.{first_some, late, late_for, overload_by, overload_in, overstay};
 
 use crate::delays::Delays;
+use crate::needs::need_behind;
 use crate::reason::Reason;
 use ats_certificate::Row;
 use ats_network::Network;
@@ -37,8 +38,8 @@ pub fn overload(port: u32, class: u8, load: u128) -> Option<Reason>
     Some(Reason::Overloaded { port, class, load })
 }
 
-/// The first of these rows whose wait and port's spread are longer than the maximum residence time of the bridge behind
-/// its port.
+/// The first of these rows whose wait and port's spread are, by the clock of the bridge behind its port, longer than
+/// the maximum residence time there.
 pub fn first_overstay(network: &Network, rows: &[Row]) -> Option<Reason>
     requires ports { All (λ (row : Row). row.port < length network.now.topology.ports) rows.now }
     requires form { All IsRow rows.now }
@@ -52,15 +53,15 @@ pub fn first_overstay(network: &Network, rows: &[Row]) -> Option<Reason>
     None
 }
 
-// The row's wait and its port's spread, where they are longer than the maximum residence time of the bridge behind.
+// The row's wait and its port's spread, by the clock of the bridge behind, where they are longer than the maximum
+// residence time there.
 fn overstay(network: &Network, row: &Row) -> Option<Reason>
     requires port { row.now.port < length network.now.topology.ports }
     requires form { IsRow row.now }
     ensures { result ≡ overstay network.now row.now }
 {
     let residence_ns = network.residence(row.port)?;
-    let port = &network.topology().ports()[row.port as usize];
-    let need = row.wait + u128::from(port.spread());
+    let need = need_behind(network, row.port, row.wait);
     if need <= u128::from(PS_PER_NS) * u128::from(residence_ns) {
         return None;
     }

@@ -28,7 +28,7 @@ pub fn enter_along(shares: &mut PortClassTable<Share>, network: &Network, sender
     requires sender { sender < length (senders_of network.now) }
     requires count { shares.old.ports ≡ length network.now.topology.ports }
     requires room { HaveRoom shares.old }
-    ensures { Enters (sender_at network.now sender) shares.old shares.new }
+    ensures { Enters network.now.topology (sender_at network.now sender) shares.old shares.new }
 {
     for (hop, port) in network.sender_ports(sender).iter().enumerate() {
         let seen = SeenSender::at(network, sender, hop as u32);

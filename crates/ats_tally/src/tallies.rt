@@ -56,7 +56,7 @@ impl<'a> Tallies<'a> {
         requires port { port < length self.now.topology.ports }
         requires class_least { 1 ≤ class }
         requires class_most { class ≤ 7 }
-        ensures { IsTally class (senders_at port (senders_of self.now)) result }
+        ensures { IsTally class (senders_at self.now.topology port (senders_of self.now)) result }
     {
         self.table.get(port, class)
     }

@@ -1,5 +1,5 @@
 -- What is found of a stream in a run of the burst: some frame of it arrives, and none later than its bound.
-use Rattle.std.proofs.Common.{◌≡◌, ℕ, ◌+◌, ◌-◌, ◌/◌, ◌<◌, ◌≤◌, Bool, true, List, get_or, map, length}
+use Rattle.std.proofs.Common.{All, ◌≡◌, ℕ, ◌+◌, ◌-◌, ◌/◌, ◌<◌, ◌≤◌, Bool, true, List, get_or, map, length}
 use Rattle.std.proofs.Common.{cond, inl, inr, refl, sym, ap, subst, ◌∙◌, arith, eqb}
 use Rattle.std.specs.Prelude.{slice_get}
 use Rattle.std.specs.List.{Contains}
@@ -20,10 +20,10 @@ use Rattle.ats_streams.specs.Stream.{DeclaredStream}
 use Rattle.ats_certificate.specs.Certificate.{Holds}
 use Rattle.ats_certificate.specs.PortSums.{uses}
 use Rattle.ats_certificate.specs.declared.row.Row.{Row}
-use Rattle.ats_checker.proofs.InTime.{holding_is_in_time}
+use Rattle.ats_checker.proofs.InTime.{holding_is_in_time, in_time_in_true_time}
 use Rattle.ats_soundness_law.specs.Sound.{ArrivesBy}
 use Rattle.ats_trace.specs.Journey.{IsJourney, Leg, Travel, legs_in, no_leg}
-use Rattle.ats_trace.specs.Run.{IsLegal, releases_of}
+use Rattle.ats_trace.specs.Run.{IsIdeal, releases_of}
 use Rattle.ats_trace.specs.Stored.{leg_in, no_travel}
 use Rattle.ats_trace.specs.Talker.{KeepsBuckets, talker_of}
 use Rattle.ats_trace.specs.declared.journey.Ending.{Ending}
@@ -97,7 +97,7 @@ own_journey network stream port run net h on burst =
 -- each frame of a stream arrives at each listener within the sum of the bounds, in a run by releases by which nodes
 -- keep their buckets
 in_time : (network : DeclaredNetwork) (rows : List Row) (run : List Travel) (stream listener : ℕ) (j : Travel)
-    → IsNetwork network → Holds network rows → IsLegal network run → stream < length network.streams
+    → IsNetwork network → Holds network rows → IsIdeal network run → stream < length network.streams
     → listener ≤ length (sender_at network stream).branches
     → ((node : ℕ) → KeepsBuckets network (releases_of run) node) → Contains run j
     → j.release.sender ≡ stream
@@ -106,7 +106,7 @@ in_time : (network : DeclaredNetwork) (rows : List Row) (run : List Travel) (str
 in_time network rows run stream listener j net holds legal h there keeps in_run own =
     let s : DeclaredStream = get_or network.streams stream no_stream in
     let same = ap (λ (x : Sender). length x.branches) (stream_at network stream h) in
-    (holding_is_in_time network rows net holds run legal j in_run s
+    (in_time_in_true_time network rows net (holding_is_in_time network rows net holds) run legal j in_run s
     (ap (slice_get network.streams) own ∙ slice_get-get_or network.streams stream no_stream h)
     (keeps (talker_of network j.release.sender)) listener
     (is_listener (stream_sender s) listener (omega (arith, there, same))) (λ k d w bridge. keeps _)).sum
@@ -121,7 +121,7 @@ arrived run stream listener limit j (Sink at) there own is by none =
 arrived run stream listener limit j Discard there own is by none = absurd by
 
 pub some_arrived : (network : DeclaredNetwork) (rows : List Row) (stream listener port : ℕ) (run : List Travel)
-    → IsNetwork network → Holds network rows → IsLegal network run → stream < length network.streams
+    → IsNetwork network → Holds network rows → IsIdeal network run → stream < length network.streams
     → listener ≤ length (sender_at network stream).branches → uses port (sender_at network stream) ≡ true
     → IsBurstFor network stream port (releases_of run) → NoneArrived run stream listener → ⊥
 some_arrived network rows stream listener port run net holds legal h there on burst none =
@@ -137,10 +137,10 @@ no_sink : (at : Ps) → Discard ≡ Sink at → ⊥
 no_sink at h = cc
 
 pub listener_of : (network : DeclaredNetwork) (run : List Travel) (listener : ℕ) (j : Travel) (at : Ps)
-    → IsLegal network run → Contains run j → (leg_in j listener).ending ≡ Sink at
+    → All (IsJourney network) run → Contains run j → (leg_in j listener).ending ≡ Sink at
     → listener ≤ length (sender_at network j.release.sender).branches
-listener_of network run listener j at legal there arrived =
-    let is : IsJourney network j = All-contains (IsJourney network) run j legal.journeys there in
+listener_of network run listener j at journeys there arrived =
+    let is : IsJourney network j = All-contains (IsJourney network) run j journeys there in
     let many = copies_many (sender_at network j.release.sender) j is.copies in
     elim (cases_lt listener (length (legs_in j)))
     as (λ _. listener ≤ length (sender_at network j.release.sender).branches) [
@@ -157,7 +157,7 @@ took_most release bound took ending at is by after =
     omega (arith, reached, after)
 
 pub delay_within : (network : DeclaredNetwork) (rows : List Row) (stream listener port delay : ℕ) (run : List Travel)
-    → IsNetwork network → Holds network rows → IsLegal network run → stream < length network.streams
+    → IsNetwork network → Holds network rows → IsIdeal network run → stream < length network.streams
     → IsBurstFor network stream port (releases_of run) → IsGreatestDelay run stream listener delay
     → delay ≤ bound_for rows (get_or network.streams stream no_stream) listener
 delay_within network rows stream listener port delay run net holds legal h burst greatest =
@@ -166,7 +166,7 @@ delay_within network rows stream listener port delay run net holds legal h burst
     let one : ArrivedAfter run stream listener delay j = greatest.one in
     let there : listener ≤ length (sender_at network stream).branches =
     subst (λ (i : ℕ). listener ≤ length (sender_at network i).branches) one.sent
-    (listener_of network run listener j one.at legal one.there one.arrived) in
+    (listener_of network run listener j one.at legal.journeys one.there one.arrived) in
     let time = in_time network rows run stream listener j net holds legal h there keeps one.there one.sent in
     took_most j.release.at.0 (bound_for rows (get_or network.streams stream no_stream) listener) delay
     (leg_in j listener).ending one.at one.arrived time one.after

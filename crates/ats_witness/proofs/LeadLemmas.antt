@@ -6,7 +6,7 @@ use Rattle.std.proofs.lemmas.Bool.{cond-false, cond-true}
 use Rattle.std.proofs.Math.ListN.{drop_of_length-le}
 use Rattle.std.proofs.lemmas.List.{drop_more}
 use Rattle.std.proofs.lemmas.List.Elements.{All-head, All-tail}
-use Rattle.ats_witness.specs.Burst.{in_front_on}
+use Rattle.ats_network.specs.Rates.{in_front_on}
 use Rattle.ats_witness.proofs.TravelLemmas.{is_port}
 
 -- a route without the port is passed over

@@ -1,13 +1,12 @@
 use Rattle.std.specs.Prelude.{◌≡◌, ◌⊎◌, ℕ, ◌+◌, ◌-◌, ◌*◌, ◌/◌, ◌<◌, ◌≤◌, Bool, ◌==◌, nat_le, min, max}
-use Rattle.std.specs.Prelude.{if◌then◌else◌, List, [], ◌∷◌, AllPairs, filter, fold, map, replicate, slice_index_or}
+use Rattle.std.specs.Prelude.{if◌then◌else◌, List, AllPairs, filter, fold, map, replicate, slice_index_or}
 use Rattle.std.specs.Prelude.{sum_by}
-use Rattle.std.specs.List.{before_first, list_any}
 use Rattle.ats_num.specs.Wire.{bits_of}
 use Rattle.ats_topology.specs.Port.{port_at}
-use Rattle.ats_streams.specs.Branches.{routes_of}
 use Rattle.ats_network.specs.Sender.{Sender}
 use Rattle.ats_network.specs.Class.{class_at}
 use Rattle.ats_network.specs.Network.{DeclaredNetwork, senders_of}
+use Rattle.ats_network.specs.Rates.{ports_to}
 use Rattle.ats_network.specs.Senders.{sender_at}
 use Rattle.ats_certificate.specs.PortSums.{uses}
 use Rattle.ats_trace.specs.Ways.{route_to}
@@ -18,17 +17,6 @@ use Rattle.ats_trace.specs.declared.journey.Release.{Release}
 abbrev pub time_over : DeclaredNetwork → ℕ → ℕ → ℕ
 time_over network octets p =
     (port_at network.topology.ports p).ps_per_bit * bits_of octets + (port_at network.topology.ports p).latency.0
-
--- the ports in front of one on the first of these routes that has it
-abbrev pub in_front_on : ℕ → List (List ℕ) → List ℕ
-in_front_on port [] = []
-in_front_on port (route ∷ routes) =
-    if list_any (λ p. p == port) route then before_first (λ p. p == port) route else in_front_on port routes
-
--- the ports over which a sender's frames come to one of its ports: those in front of it on its routes, all of which
--- come to it in the same way
-abbrev pub ports_to : Sender → ℕ → List ℕ
-ports_to s port = in_front_on port (routes_of s.ports s.branches)
 
 -- a sender's travel to a port: what its longest frame takes over the ports in front of that one
 abbrev pub travel_to : DeclaredNetwork → ℕ → Sender → ℕ

@@ -4,22 +4,25 @@ use Rattle.std.specs.Prelude.{◌≡◌, ℕ, ◌+◌, ◌*◌, ◌^◌, ◌≤�
 use Rattle.std.specs.Prelude.{if◌then◌else◌}
 use Rattle.std.specs.List.{flat_map, range_with_len}
 use Rattle.std.specs.List.Sorted.{IsNonDecreasingBy}
+use Rattle.ats_num.specs.Wire.{IsFrameSize}
 use Rattle.ats_network.specs.Sender.{Sender}
-use Rattle.ats_network.specs.Class.{seen_at}
+use Rattle.ats_network.specs.Class.{class_at}
 use Rattle.ats_network.specs.Network.{DeclaredNetwork}
 use Rattle.ats_certificate.specs.PortSums.{uses}
-use Rattle.ats_tally.specs.SenderAtPort.{KeepsLimits, port_sender}
 use Rattle.ats_trace.specs.declared.journey.Release.{Release}
 use Rattle.ats_witness.specs.Burst.{burst_of, travel_to}
 use Rattle.ats_witness.specs.declared.participant.Participant.{Participant}
 
--- a sender that has the port, as it takes part in the burst there: what the port sees of it, and its travel
+-- a sender that has the port, as it takes part in the burst there: its class, its declared burst, the octets of its
+-- longest frame, and its travel
 pub record IsParticipant (network : DeclaredNetwork) (port : ℕ) (s : Sender) (p : Participant) : Type 0 where
   pub used : uses port s ≡ true
-  pub seen : port_sender p.seen ≡ seen_at port s
+  pub class : p.class ≡ class_at s port
+  pub burst : p.burst_bits ≡ s.burst_bits
+  pub longest : p.max_octets ≡ s.max_octets
+  pub size : IsFrameSize p.max_octets
   pub travel : p.travel ≡ travel_to network port s
   pub most : p.travel ≤ 231424000000
-  pub limits : KeepsLimits p.seen
 
 -- the greatest travel so far with one sender more, where it has the port
 abbrev pub with_travel : DeclaredNetwork → ℕ → ℕ → Sender → ℕ

@@ -48,7 +48,7 @@ fn class_at(network: &Network, stream: u32, port: u32) -> u8
 {
     let _rules = network.topology(); // for what a network keeps
     match taking_part(network, stream, port) {
-        Some(participant) => participant.seen.class,
+        Some(participant) => participant.class,
         None => unreachable!(),
     }
 }
@@ -116,7 +116,7 @@ fn push_frames(
             let release = Release {
                 at: Ps(participant.time(class, greatest)),
                 sender,
-                octets: participant.seen.max_octets,
+                octets: participant.max_octets,
             };
             push_copies(releases, release, participant.frames(class))
         }

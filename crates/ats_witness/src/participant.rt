@@ -7,15 +7,15 @@ ghost use Rattle.ats_topology.specs.Port.{port_at};
 ghost use Rattle.ats_topology.specs.Walks.{ArePorts};
 ghost use Rattle.ats_streams.specs.declared.path.TheConstants.{MAX_PORTS};
 ghost use Rattle.ats_network.specs.Network.{senders_of};
+ghost use Rattle.ats_network.specs.Rates.{ports_to};
+ghost use Rattle.ats_network.specs.SenderView.{sender_of};
 ghost use Rattle.ats_network.specs.Senders.{sender_at};
 ghost use Rattle.ats_certificate.specs.PortSums.{uses};
-ghost use Rattle.ats_tally.specs.SenderAtPort.{KeepsLimits};
-ghost use Rattle.ats_witness.specs.Burst.{ports_to, time_over};
+ghost use Rattle.ats_witness.specs.Burst.{time_over};
 ghost use Rattle.ats_witness.specs.Made.{IsParticipant};
 
-use ats_network::Network;
+use ats_network::{Network, Sender};
 use ats_num::wire_bits;
-use ats_tally::SeenSender;
 
 /// The most frames of a sender in a burst.
 pub const MAX_BURST_FRAMES: u64 = 40;
@@ -23,8 +23,12 @@ pub const MAX_BURST_FRAMES: u64 = 40;
 /// A sender that has a port.
 #[derive(Clone, Copy)]
 pub(crate) struct Participant {
-    /// What the port sees of it.
-    pub(crate) seen: SeenSender,
+    /// Its class there.
+    pub(crate) class: u8,
+    /// The burst that it declares, in bits; of a flow 0.
+    pub(crate) burst_bits: u64,
+    /// The octets of its longest frame.
+    pub(crate) max_octets: u32,
     /// Its travel to the port, in picoseconds.
     pub(crate) travel: u64,
 }
@@ -32,12 +36,12 @@ pub(crate) struct Participant {
 impl Participant {
     /// How many frames it has in the burst for a class.
     pub(crate) fn frames(&self, class: u8) -> u64
-        requires { KeepsLimits self.now.seen }
-        ensures { result ≡ (if nat_le class self.now.seen.class
-            then min 40 (self.now.seen.burst_bits / bits_of self.now.seen.max_octets) else 1) }
+        requires { IsFrameSize self.now.max_octets }
+        ensures { result ≡ (if nat_le class self.now.class
+            then min 40 (self.now.burst_bits / bits_of self.now.max_octets) else 1) }
     {
-        if class <= self.seen.class {
-            (self.seen.burst_bits / wire_bits(self.seen.max_octets)).min(MAX_BURST_FRAMES)
+        if class <= self.class {
+            (self.burst_bits / wire_bits(self.max_octets)).min(MAX_BURST_FRAMES)
         } else {
             1
         }
@@ -47,11 +51,11 @@ impl Participant {
     pub(crate) fn time(&self, class: u8, greatest: u64) -> u64
         requires travel { self.now.travel ≤ greatest }
         requires most { greatest ≤ 231424000000 }
-        ensures { result ≡ (if nat_le class self.now.seen.class
+        ensures { result ≡ (if nat_le class self.now.class
             then 1 + greatest - self.now.travel else 1 + greatest - self.now.travel - 1) }
     {
         let together = 1 + greatest - self.travel;
-        if class <= self.seen.class {
+        if class <= self.class {
             together
         } else {
             together - 1
@@ -66,11 +70,28 @@ pub(crate) fn taking_part(network: &Network, sender: u32, port: u32) -> Option<P
         (IsParticipant network.now port (sender_at network.now sender)) }
 {
     let place = place_of(network.sender_ports(sender), port)?;
-    let seen = SeenSender::at(network, sender, place as u32);
+    let (burst_bits, max_octets) = burst_and_longest(&network.sender(sender));
     Some(Participant {
-        seen,
-        travel: travel_to(network, sender, port, seen.max_octets),
+        class: network.sender_class(sender, place as u32),
+        burst_bits,
+        max_octets,
+        travel: travel_to(network, sender, port, max_octets),
     })
+}
+
+// The burst that a sender declares, in bits, and the octets of its longest frame.
+fn burst_and_longest(sender: &Sender<'_>) -> (u64, u32)
+    ensures burst { result.0 ≡ (sender_of sender.now).burst_bits }
+    ensures longest { result.1 ≡ (sender_of sender.now).max_octets }
+    ensures size { IsFrameSize result.1 }
+{
+    match sender {
+        Sender::Stream(stream) => {
+            let declared = stream.declared();
+            (declared.burst_bits, declared.max_octets)
+        }
+        Sender::Flow(flow) => (0, flow.max_octets()),
+    }
 }
 
 // The place of a port among others.

@@ -7,9 +7,11 @@ use Rattle.std.proofs.lemmas.Option.{slice_get_within}
 use Rattle.ats_network.specs.Sender.{Sender}
 use Rattle.ats_network.specs.Class.{class_at}
 use Rattle.ats_network.specs.Senders.{sender_at}
+use Rattle.ats_clock_run_law.specs.Laws.{IsLegalInTrueTime}
+use Rattle.ats_clock_run_law.proofs.TrueTime.{true_time_is_legal}
 use Rattle.ats_checker.proofs.InTime.{sender_of_stream}
 use Rattle.ats_soundness_law.specs.Sound.{ArrivesBy, bounds_of}
-use Rattle.ats_soundness_law.proofs.Soundness.{certificate_is_sound}
+use Rattle.ats_soundness_law.proofs.TrueTime.{certificate_is_sound, kept_in_true_time}
 use Rattle.ats_trace.specs.Journey.{Travel}
 use Rattle.ats_trace.specs.Stored.{leg_in}
 use Rattle.ats_trace.specs.Talker.{talker_of}
@@ -20,7 +22,7 @@ use Rattle.ats_witness.proofs.FoundLemmas.{listener_of}
 use Rattle.ats_witness.proofs.KeptLemmas.{burst_keeps}
 use Rattle.ats_witness.proofs.StreamLemmas.{is_listener}
 use Rattle.ats_witness_law.specs.Laws.{BurstKeepsBuckets, FoundDelaysHappen, FoundIsWithin, HappensLawfully}
-use Rattle.ats_witness_law.specs.Laws.{HappensWithin, LastGoesLast, NoSoundBoundIsLess}
+use Rattle.ats_witness_law.specs.Laws.{HappensByClocks, HappensWithin, LastGoesLast, NoSoundBoundIsLess}
 use Rattle.ats_witness_law.proofs.LateArrivals.{delays_are_exact}
 
 pub last_goes_last : LastGoesLast
@@ -44,11 +46,24 @@ found_delays_happen network stream listener port delay net found =
       there = one.there;
       sent = one.sent;
       took = delays_are_exact network found.run stream listener delay found.greatest.journey net
-          found.of_burst.by.legal one;
+          (true_time_is_legal network found.run net found.of_burst.by.legal).legal one;
     }
 
 pub happens_lawfully : HappensLawfully
 happens_lawfully network stream listener delay can = (can.legal, can.keeps)
+
+pub happens_by_clocks : HappensByClocks
+happens_by_clocks network stream listener delay net can =
+    let made : IsLegalInTrueTime network can.run = true_time_is_legal network can.run net can.legal in
+    record {
+      run = can.run;
+      legal = made.legal;
+      keeps = λ node. kept_in_true_time network can.run made node (can.keeps node);
+      journey = can.journey;
+      there = can.there;
+      sent = can.sent;
+      took = can.took;
+    }
 
 -- a delay that can happen is no more than sound bounds together
 pub happens_within : HappensWithin
@@ -58,7 +73,7 @@ happens_within network rows place listener delay stream sound named can =
     let own : slice_get network.streams i ≡ Some stream = ap (slice_get network.streams) can.sent ∙ named in
     let s : Sender = sender_at network i in
     let there : listener ≤ length s.branches = listener_of network can.run listener j
-    (record { 0 = j.release.at.0 + delay }) can.legal can.there can.took in
+    (record { 0 = j.release.at.0 + delay }) can.legal.journeys can.there can.took in
     let served = sound.served can.run can.legal j can.there (slice_get_within network.streams i stream own)
     (can.keeps (talker_of network i)) listener (is_listener s listener there) (λ k d h bridge. can.keeps _) in
     let by : ArrivesBy (j.release.at.0 + bound_for rows stream listener) (leg_in j listener).ending =
@@ -73,7 +88,8 @@ happens_within network rows place listener delay stream sound named can =
 pub no_sound_bound_is_less : NoSoundBoundIsLess
 no_sound_bound_is_less network rows place listener port delay stream net sound named found =
     happens_within network rows place listener delay stream sound named
-    (found_delays_happen network place listener port delay net found)
+    (happens_by_clocks network place listener delay net
+    (found_delays_happen network place listener port delay net found))
 
 pub found_is_within : FoundIsWithin
 found_is_within network rows place listener port delay stream net holds named found =

@@ -1,7 +1,7 @@
 -- In a legal run no frame arrives before its release.
 use Rattle.std.proofs.Common.{◌≡◌, ℕ, ◌+◌, ◌-◌, ◌*◌, ◌<◌, ◌≤◌, inl, inr, Bool, true, false, cond, List, [], ◌∷◌, ◌++◌}
 use Rattle.std.proofs.Common.{get_or, map, length, refl, sym, ap, subst, ◌∙◌, arith}
-use Rattle.std.specs.Prelude.{Option, Some, None, ◌==◌, ◌&&◌}
+use Rattle.std.specs.Prelude.{Option, Some, None, ◌==◌, ◌&&◌, zip}
 use Rattle.std.specs.List.{All, AllZip, Contains}
 use Rattle.std.proofs.lemmas.Bool.{and_from, cases_lt, eq-eqb}
 use Rattle.std.proofs.lemmas.List.Elements.{All-contains, All-cons, All-head, All-nil}
@@ -12,27 +12,29 @@ use Rattle.ats_topology.specs.Port.{port_at}
 use Rattle.ats_network.specs.Sender.{Sender}
 use Rattle.ats_network.specs.Network.{DeclaredNetwork, IsNetwork}
 use Rattle.ats_network.specs.Senders.{sender_at}
-use Rattle.ats_group.specs.Judge.{OnEligible, ats_judge, bucket_rule}
+use Rattle.ats_clock_law.specs.TrueTime.{IsTrueVerdict}
+use Rattle.ats_group.specs.Group.{Offer}
+use Rattle.ats_group.specs.Judge.{OnEligible}
 use Rattle.ats_group.specs.declared.verdict.Verdict.{Verdict}
 use Rattle.ats_group.specs.declared.verdict.Verdict.TheVariants.{Eligible, Late, Size}
-use Rattle.ats_group_law.specs.Regulator.{IsEligibleArrived}
-use Rattle.ats_port_rule.specs.PortRule.{KeepsPortRule}
+use Rattle.ats_port_rule.specs.PortRule.{KeepsPortRuleBy}
 use Rattle.ats_port_rule.specs.Transmission.{Transmission}
 use Rattle.ats_streams.specs.Path.{IsPath}
 use Rattle.ats_streams.specs.Traffic.{is_declared_size}
 use Rattle.ats_soundness_law.proofs.Along.{crossing_by, handed_on}
 use Rattle.ats_soundness_law.proofs.Arrivals.{crossed_there}
 use Rattle.ats_soundness_law.proofs.Journeys.{crossings_on_route, each_was_sent, handed_on_route, journey_route}
-use Rattle.ats_soundness_law.proofs.Known.{Case, IsKnown, IsTold, ats_case, known, told}
+use Rattle.ats_soundness_law.proofs.Known.{IsKnown, IsTold, known, told}
 use Rattle.ats_soundness_law.proofs.Lifts.{numbered, run_were_sent}
 use Rattle.ats_soundness_law.proofs.Paths.{sender_is}
 use Rattle.ats_soundness_law.proofs.Routes.{OnRoute}
-use Rattle.ats_trace.specs.Eligibility.{IsJudged, IsPassed, declared_by, offer_of, residence_of_groups}
+use Rattle.ats_soundness_law.proofs.ToldTimes.{case_in}
+use Rattle.ats_trace.specs.Clocks.{IsJudgedBy, IsLegal}
+use Rattle.ats_trace.specs.Eligibility.{IsPassed, declared_by, offer_of}
 use Rattle.ats_trace.specs.Journey.{IsJourney, IsReleased, IsSentOrEnds, IsWay, Leg, Travel, class_at, legs_at, legs_in}
 use Rattle.ats_trace.specs.Links.{ArrivesWithin}
 use Rattle.ats_trace.specs.Projections.{Crossing, Handed, crossing_at, crossings_along, crossings_by, crossings_from}
 use Rattle.ats_trace.specs.Projections.{handed_along, handed_at, handed_by, handed_from, sent_by, transmission_by}
-use Rattle.ats_trace.specs.Run.{IsLegal}
 use Rattle.ats_trace.specs.declared.journey.Ending.{Ending}
 use Rattle.ats_trace.specs.declared.journey.Ending.TheVariants.{Sink, Discard}
 use Rattle.ats_trace.specs.HopRecord.{HopRecord}
@@ -133,9 +135,9 @@ not_before limit frame release sender (p ∷ path) (hop ∷ hops) ending way all
     (not_before limit frame release sender path hops ending) way all handed first
 
 -- each crossing of a legal run is so
-one_crosses : (ps earliest latest : ℕ) (sent : List Transmission) (c : Crossing) → KeepsPortRule ps sent
-    → Contains sent c.sent → ArrivesWithin earliest latest c → CrossesAfter c
-one_crosses ps earliest latest sent c rule there arrives =
+one_crosses : (by : Transmission → ℕ) (ps earliest latest : ℕ) (sent : List Transmission) (c : Crossing)
+    → KeepsPortRuleBy by ps sent → Contains sent c.sent → ArrivesWithin earliest latest c → CrossesAfter c
+one_crosses by ps earliest latest sent c rule there arrives =
     let waits : c.sent.eligible ≤ c.sent.start =
     All-contains (λ (x : Transmission). x.eligible ≤ x.start) sent c.sent rule.waits there in
     let takes : c.sent.end ≡ c.sent.start + ps * c.sent.bits =
@@ -145,7 +147,7 @@ one_crosses ps earliest latest sent c rule there arrives =
 all_cross : (network : DeclaredNetwork) (run : List Travel) → IsNetwork network → IsLegal network run
     → All CrossesAfter (crossings_from network 0 run)
 all_cross network run net legal k d h =
-    let c = ats_case network run net legal in
+    let c = case_in net legal in
     let crossings : List Crossing = crossings_from network 0 run in
     let one : Crossing = get_or crossings k d in
     let at = run_were_sent (IsKnown network) network 0 run
@@ -153,7 +155,7 @@ all_cross network run net legal k d h =
     (legs_at network j.release.sender) (legs_in j)) (known network run c) k d h in
     let own = λ (x : Crossing). x.port == one.port in
     let mine : All CrossesAfter (crossings_by network run one.port) = λ i e g.
-    one_crosses (port_at network.topology.ports one.port).ps_per_bit
+    one_crosses (c.told one.port) (port_at network.topology.ports one.port).ps_per_bit
     (port_at network.topology.ports one.port).earliest.0 (port_at network.topology.ports one.port).latency.0
     (sent_by network run one.port) (get_or (crossings_by network run one.port) i e)
     (legal.ports one.port at.within) (crossed_there network run one.port i e g)
@@ -161,23 +163,31 @@ all_cross network run net legal k d h =
     All-from_filter own CrossesAfter crossings mine k d h (eq-eqb one.port one.port refl)
 
 -- and each frame that is handed on: a stream's by its group, a flow's by its size alone
-zipped : {X Y Z : Type 0} (R : Y → Z → Type 0) (f : X → Y) (g : X → Z) (xs : List X)
-    → AllZip R (map f xs) (map g xs) → All (λ (x : X). R (f x) (g x)) xs
-zipped {X} R f g [] all = All-nil (λ (x : X). R (f x) (g x))
-zipped {X} R f g (x ∷ xs) all = All-cons (λ (y : X). R (f y) (g y)) x xs all.0 (zipped R f g xs all.1)
+one_after : (shows : ℕ → ℕ) (offer : Offer) (told verdict : Verdict) → IsTrueVerdict shows offer told verdict
+    → OnEligible verdict (λ e. offer.arrival ≤ e)
+one_after shows offer (Eligible at) verdict truly =
+    subst (λ (v : Verdict). OnEligible v (λ e. offer.arrival ≤ e)) (sym truly.1) truly.2.arrived
+one_after shows offer (Late at) verdict truly =
+    subst (λ (v : Verdict). OnEligible v (λ e. offer.arrival ≤ e)) (sym truly.1) tt
+one_after shows offer Size verdict truly =
+    subst (λ (v : Verdict). OnEligible v (λ e. offer.arrival ≤ e)) (sym truly) tt
 
-judged_after : (network : DeclaredNetwork) (run : List Travel) (port class : ℕ)
-    → Case ats_judge bucket_rule network run
-    → IsJudged ats_judge network (residence_of_groups network port) (handed_by network run port class)
+each_after : (shows : ℕ → ℕ) (handed : List Handed) (told : List Verdict)
+    → AllZip (λ (judged : Offer × Verdict) (verdict : Verdict). IsTrueVerdict shows judged.0 judged.1 verdict)
+    (zip (map offer_of handed) told) (map (λ (h : Handed). h.verdict) handed) → All EligibleAfter handed
+each_after shows [] told all = All-nil EligibleAfter
+each_after shows (h ∷ handed) [] all = absurd all
+each_after shows (h ∷ handed) (v ∷ told) all =
+    All-cons EligibleAfter h handed (one_after shows (offer_of h) v h.verdict all.0)
+    (each_after shows handed told all.1)
+
+judged_after : (shows told : ℕ → ℕ) (network : DeclaredNetwork) (run : List Travel) (port class : ℕ)
+    → IsJudgedBy shows told network port (handed_by network run port class)
     → All EligibleAfter (handed_by network run port class)
-judged_after network run port class c judged =
-    let told = c.regulator.arrived (declared_by network) (residence_of_groups network port)
-    (map offer_of judged.arrivals) in
+judged_after shows told network run port class judged =
     All-permutation EligibleAfter judged.arrivals (handed_by network run port class)
     (IsPermutation-sym (handed_by network run port class) judged.arrivals judged.same)
-    (zipped IsEligibleArrived offer_of (λ (h : Handed). h.verdict) judged.arrivals
-    (subst (λ (vs : List Verdict). AllZip IsEligibleArrived (map offer_of judged.arrivals) vs)
-    (sym judged.verdicts) told))
+    (each_after shows judged.arrivals _ judged.verdicts)
 
 passed_after : (network : DeclaredNetwork) (h : Handed) → IsPassed network h → EligibleAfter h
 passed_after network h passed =
@@ -192,16 +202,18 @@ passed_after network h passed =
 all_after : (network : DeclaredNetwork) (run : List Travel) → IsNetwork network → IsLegal network run
     → All EligibleAfter (handed_from network 0 run)
 all_after network run net legal k d h =
-    let c = ats_case network run net legal in
+    let c = case_in net legal in
     let handed : List Handed = handed_from network 0 run in
     let one : Handed = get_or handed k d in
     let port : ℕ = one.crossing.port in
     let class : ℕ = one.crossing.sent.class in
+    let node : ℕ = (port_at network.topology.ports port).to in
     let at : IsTold network one = told network run c k d h in
     let own = λ (x : Handed). x.crossing.port == port && x.crossing.sent.class == class in
     let mine : All EligibleAfter (handed_by network run port class) =
     elim (cases_lt 0 class) as (λ _. All EligibleAfter (handed_by network run port class)) [
-      | inl some ↦ judged_after network run port class c (legal.groups port class at.within (omega (arith, some)))
+      | inl some ↦ judged_after (legal.clocks node) (legal.told node) network run port class
+          (legal.groups port class at.within (omega (arith, some)))
       | inr none ↦
           (let is : class ≡ 0 = omega (arith, none) in
           subst (λ (n : ℕ). All EligibleAfter (handed_by network run port n)) (sym is)
@@ -227,12 +239,11 @@ exactly release took at le after =
 
 pub delays_are_exact : DelaysAreExact
 delays_are_exact network run sender listener took j net legal a =
-    let c = ats_case network run net legal in
     let n = numbered CrossesAfter EligibleAfter network run j a.there (all_cross network run net legal)
     (all_after network run net legal) in
     let is : IsJourney network j = All-contains (IsJourney network) run j legal.journeys a.there in
     let s : Sender = sender_at network j.release.sender in
-    let there = listener_of network run listener j a.at legal a.there a.arrived in
+    let there = listener_of network run listener j a.at legal.journeys a.there a.arrived in
     let some : listener < listener_count s = is_listener s listener there in
     let route : List ℕ = route_to s listener in
     let way : Leg = way_to s j listener in

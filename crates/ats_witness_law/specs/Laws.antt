@@ -5,18 +5,22 @@ use Rattle.ats_streams.specs.Stream.{DeclaredStream}
 use Rattle.ats_network.specs.Sender.{Sender}
 use Rattle.ats_network.specs.Class.{port_before}
 use Rattle.ats_network.specs.Network.{DeclaredNetwork, IsNetwork}
+use Rattle.ats_network.specs.Rates.{ports_to}
 use Rattle.ats_network.specs.Senders.{IsSender}
 use Rattle.ats_certificate.specs.Certificate.{Holds}
 use Rattle.ats_certificate.specs.PortSums.{uses}
 use Rattle.ats_certificate.specs.declared.row.Row.{Row}
+use Rattle.ats_group.specs.Judge.{ats_judge, bucket_rule}
+use Rattle.ats_soundness_law.specs.Runs.{Runs, ats_runs, in_true_time}
 use Rattle.ats_soundness_law.specs.Sound.{IsSound}
+use Rattle.ats_trace.specs.Clocks.{IsLegal}
 use Rattle.ats_trace.specs.Journey.{Travel}
-use Rattle.ats_trace.specs.Run.{IsLegal, releases_of}
+use Rattle.ats_trace.specs.Run.{IsIdeal, releases_of}
 use Rattle.ats_trace.specs.Stored.{leg_in}
 use Rattle.ats_trace.specs.Talker.{KeepsBuckets}
 use Rattle.ats_trace.specs.declared.journey.Ending.TheVariants.{Sink}
 use Rattle.ats_trace.specs.declared.journey.Release.{Release}
-use Rattle.ats_witness.specs.Burst.{IsBurst, ports_to, time_over, travel_to}
+use Rattle.ats_witness.specs.Burst.{IsBurst, time_over, travel_to}
 use Rattle.ats_witness.specs.Delay.{ArrivedAfter}
 use Rattle.ats_witness.specs.Found.{IsFoundAt, bound_for}
 use Rattle.ats_witness.specs.Last.{last_key}
@@ -60,33 +64,43 @@ DelaysAreExact = (network : DeclaredNetwork) (run : List Travel) (sender listene
     → IsNetwork network → IsLegal network run → ArrivedAfter run sender listener took journey
     → ArrivesExactly journey listener took
 
--- a delay of a stream for a listener can happen: there is a legal run in which every node keeps its buckets, and a
--- frame of the stream in it that takes just so long to this listener
-pub record CanHappen (network : DeclaredNetwork) (stream listener delay : ℕ) : Type 0 where
+-- a delay of a stream for a listener can happen in such runs: in a legal one every node keeps what is asked of it, and
+-- there is a frame of the stream in it that takes just so long to this listener
+pub record CanHappenIn (runs : Runs) (network : DeclaredNetwork) (stream listener delay : ℕ) : Type 0 where
   pub run : List Travel
-  pub legal : IsLegal network run
-  pub keeps : (node : ℕ) → KeepsBuckets network (releases_of run) node
+  pub legal : runs.legal network run
+  pub keeps : (node : ℕ) → runs.keeps network run legal node
   pub journey : Travel
   pub there : Contains run journey
   pub sent : journey.release.sender ≡ stream
   pub took : ArrivesExactly journey listener delay
 
+-- it can happen where all nodes read true time, and keep their buckets
+abbrev pub CanHappen : DeclaredNetwork → ℕ → ℕ → ℕ → Type 0
+CanHappen network stream listener delay =
+    CanHappenIn (in_true_time ats_judge bucket_rule) network stream listener delay
+
 abbrev pub FoundDelaysHappen : Type 0
 FoundDelaysHappen = (network : DeclaredNetwork) (stream listener port delay : ℕ) → IsNetwork network
     → IsFoundAt network stream listener port delay → CanHappen network stream listener delay
 
--- it does so in a legal run in which every node keeps its buckets. Refuses runs of which less is asked than that
+-- it does so in a run by true time in which every node keeps its buckets. Refuses runs of which less is asked than that
 abbrev pub HappensLawfully : Type 0
 HappensLawfully = (network : DeclaredNetwork) (stream listener delay : ℕ)
     → (can : CanHappen network stream listener delay)
-    → IsLegal network can.run × ((node : ℕ) → KeepsBuckets network (releases_of can.run) node)
+    → IsIdeal network can.run × ((node : ℕ) → KeepsBuckets network (releases_of can.run) node)
+
+-- so it can where each bridge goes by its own clock
+abbrev pub HappensByClocks : Type 0
+HappensByClocks = (network : DeclaredNetwork) (stream listener delay : ℕ) → IsNetwork network
+    → CanHappen network stream listener delay → CanHappenIn ats_runs network stream listener delay
 
 -- bounds that are sound give a stream along the route to a listener together at least each delay for it that can
--- happen
+-- happen, by whatever clocks
 abbrev pub HappensWithin : Type 0
 HappensWithin = (network : DeclaredNetwork) (rows : List Row) (place listener delay : ℕ) (stream : DeclaredStream)
-    → IsSound network rows → slice_get network.streams place ≡ Some stream → CanHappen network place listener delay
-    → delay ≤ bound_for rows stream listener
+    → IsSound network rows → slice_get network.streams place ≡ Some stream
+    → CanHappenIn ats_runs network place listener delay → delay ≤ bound_for rows stream listener
 
 -- and so each that is found
 abbrev pub NoSoundBoundIsLess : Type 0

@@ -1,8 +1,8 @@
 //! Laws of the burst at a port, and of found delays.
 
 ghost use Rattle.ats_witness_law.specs.Laws.{BurstIsOne, BurstKeepsBuckets, DelaysAreExact, FoundDelaysHappen};
-ghost use Rattle.ats_witness_law.specs.Laws.{FoundIsWithin, HappensLawfully, HappensWithin, LastGoesLast};
-ghost use Rattle.ats_witness_law.specs.Laws.{NoSoundBoundIsLess, OneListenerComesByItsPath};
+ghost use Rattle.ats_witness_law.specs.Laws.{FoundIsWithin, HappensByClocks, HappensLawfully, HappensWithin};
+ghost use Rattle.ats_witness_law.specs.Laws.{LastGoesLast, NoSoundBoundIsLess, OneListenerComesByItsPath};
 ghost use Rattle.ats_witness_law.specs.Laws.{TravelGoesOverThePortBefore};
 
 /// Of frames that tie, those of any other sender go before those of the last one.
@@ -36,18 +36,24 @@ pub fn delays_are_exact()
     ensures { DelaysAreExact }
 {}
 
-/// What is found can happen: in a legal run in which every node keeps its buckets, a frame of the stream takes just
-/// so long to the listener.
+/// What is found can happen: in a run in which all nodes read true time, nothing happens that its rules forbid, and
+/// every node keeps its buckets, a frame of the stream takes just so long to the listener.
 pub fn found_delays_happen()
     ensures { FoundDelaysHappen }
 {}
 
-/// The run of a delay that can happen is legal, and in it every node keeps its buckets.
+/// The run of a delay that can happen is one by true time, and in it every node keeps its buckets.
 pub fn happens_lawfully()
     ensures { HappensLawfully }
 {}
 
-/// A delay that can happen is no more than sound bounds give the stream together along the route to the listener.
+/// What can happen by true time can happen where each bridge goes by its own clock, since it may show true time.
+pub fn happens_by_clocks()
+    ensures { HappensByClocks }
+{}
+
+/// A delay that can happen, by whatever clocks, is no more than sound bounds give the stream together along the route
+/// to the listener.
 pub fn happens_within()
     ensures { HappensWithin }
 {}

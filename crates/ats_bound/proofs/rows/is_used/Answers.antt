@@ -13,7 +13,8 @@ returns c =
     ∙ ap (list_any (λ s. is_user c.args.port c.args.class (stream_sender s)))
     c.streams.ensures.value
     ∙ sym (list_any-map (is_user c.args.port c.args.class) stream_sender c.args.network.now.streams)
-    ∙ sym (list_any-filter (λ (s : Sender). is_of c.args.class (seen_at c.args.port s)) (uses c.args.port)
+    ∙ sym (list_any-filter (λ (s : Sender). is_of c.args.class (seen_at c.args.network.now.topology c.args.port s))
+    (uses c.args.port)
     (map stream_sender c.args.network.now.streams))
-    ∙ sym (list_any-map (is_of c.args.class) (seen_at c.args.port)
+    ∙ sym (list_any-map (is_of c.args.class) (seen_at c.args.network.now.topology c.args.port)
     (filter (uses c.args.port) (map stream_sender c.args.network.now.streams)))

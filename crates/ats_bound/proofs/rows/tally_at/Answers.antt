@@ -19,7 +19,8 @@ loop-sender-preserved c =
     let within : c.loop-sender.sender < length (senders_of c.args.network.now) =
     omega (arith, c.loop-sender-test.true, c.senders-sender-end.ensures.value) in
     subst (λ (t : Tally). IsTally c.args.class
-    (senders_at c.args.port (take (c.loop-sender.sender + 1) (senders_of c.args.network.now))) t)
+    (senders_at c.args.network.now.topology c.args.port
+    (take (c.loop-sender.sender + 1) (senders_of c.args.network.now))) t)
     (sym c.with_user-tally.ensures)
     (count_more c.args.network.now c.args.port c.args.class c.loop-sender.sender c.loop-sender.tally within
     c.loop-sender.invariant)

@@ -6,4 +6,5 @@ use Rattle.ats_bound.proofs.rows.tally_at.Given as goal
 
 -- what the senders so far make of the class
 abbrev pub invariant-loop-sender : goal.invariant-loop-sender
-invariant-loop-sender l = IsTally l.class (senders_at l.port (take l.sender (senders_of l.network))) l.tally
+invariant-loop-sender l = IsTally l.class
+    (senders_at l.network.topology l.port (take l.sender (senders_of l.network))) l.tally

@@ -21,11 +21,13 @@ returns-in-Some c =
     ∙ sym c.hop_of.ensures.place ∙ c.in-Some.is in
     c.with_sender.ensures
     ∙ ap (λ (s : PortSender). tally_with c.args.class s c.args.tally) c.at.ensures.seen
-    ∙ sym (more_at c.args.port c.args.class (sender_at c.args.network.now c.args.sender) c.args.tally c.in-Some.hop at)
+    ∙ sym (more_at c.args.network.now.topology c.args.port c.args.class
+    (sender_at c.args.network.now c.args.sender) c.args.tally c.in-Some.hop at)
 
 pub returns-in-None : goal.returns-in-None
 returns-in-None c =
     let at : position_from (λ p. eqb p c.args.port) 0 (sender_at c.args.network.now c.args.sender).ports ≡ None =
     ap (position_from (λ p. eqb p c.args.port) 0) (sym c.sender_ports.ensures.value)
     ∙ sym c.hop_of.ensures.place ∙ c.in-None.is in
-    sym (no_more c.args.port c.args.class (sender_at c.args.network.now c.args.sender) c.args.tally at)
+    sym (no_more c.args.network.now.topology c.args.port c.args.class
+    (sender_at c.args.network.now c.args.sender) c.args.tally at)

@@ -1,11 +1,14 @@
 use Rattle.std.proofs.Common.{ℕ, List, length, slice_index_or, ap, arith}
-use Rattle.ats_network.specs.Edits.{no_stream}
+use Rattle.std.proofs.lemmas.Bool.{eq-eqb}
+use Rattle.ats_network.specs.Class.{class_at}
+use Rattle.ats_network.specs.Sender.{stream_sender}
 use Rattle.ats_network.specs.Senders.{sender_at}
 use Rattle.ats_route_law.specs.Laws.{in_front_of}
 use Rattle.ats_buffer.proofs.Found.{stay-most, way_behind-most, shares-most, share-most}
 use Rattle.ats_buffer.proofs.Hops.{hop_is, legs_before, leg_added, same_stream, share_is, stream_exists, sum_is}
-use Rattle.ats_buffer.proofs.Hops.{added_hop, way_next, way_there}
+use Rattle.ats_buffer.proofs.Hops.{added_hop, before_next, counted_there, seen_there, way_next, way_there}
 use Rattle.ats_buffer.proofs.LegHops.{leg_few}
+use Rattle.ats_buffer.proofs.Rated.{rated_there}
 use Rattle.ats_buffer.proofs.ShareLemmas.{stream_at}
 use Rattle.ats_buffer.proofs.shares.add_leg.Goals as goal
 
@@ -17,7 +20,8 @@ pub loop-hop-init : goal.loop-hop-init
 loop-hop-init c = record {
   added = legs_before c.args.network.now c.args.rows.now.rows c.args.stream c.args.leg c.args.sums.now
       c.streams.ensures.rules c.requires.stream c.requires.leg c.requires.before;
-  way = c.way_to_leg-way.ensures;
+  before = c.way_to_leg-front.ensures.port;
+  way = c.way_to_leg-front.ensures.way;
 }
 
 pub overflow_cast-hop : goal.overflow_cast-hop
@@ -33,6 +37,23 @@ class_of-class-requires-clause-sender c =
 pub class_of-class-requires-clause-hop : goal.class_of-class-requires-clause-hop
 class_of-class-requires-clause-hop c =
     omega (arith, c.loop-hop-test.true, ap (λ (l : List ℕ). length l) c.sender_leg-port-items.ensures.value)
+
+pub committed_at-seen-requires : goal.committed_at-seen-requires
+committed_at-seen-requires c =
+    let network = c.args.network.now in
+    let leg : ℕ = c.args.leg in
+    let hop : ℕ = c.loop-hop.hop in
+    let port : ℕ = slice_index_or c.sender_leg-port-items.result.now hop 0 in
+    let class : ℕ = c.class_of-class.result in
+    let at = hop_is c.args.network.now c.args.stream c.args.leg c.loop-hop.hop c.sender_leg-port-items.result.now
+    c.class_of-class.result c.streams.ensures.rules c.requires.stream c.requires.leg
+    c.sender_leg-port-items.ensures.value c.loop-hop-test.true c.class_of-class.ensures in
+    rated_there network c.args.stream leg hop port class c.topology.result.now c.index-streams-stream.result
+    c.unwrap_or.result c.streams.ensures.rules c.requires.stream at c.topology.ensures.value
+    (same_stream network c.streams.result.now c.args.stream c.index-streams-stream.result c.streams.ensures.value
+    c.requires.stream c.index-streams-stream.is)
+    (counted_there network c.args.stream leg hop port class c.loop-hop.before c.unwrap_or.result
+    c.streams.ensures.rules c.requires.stream c.requires.leg at c.loop-hop.invariant.before c.unwrap_or.ensures)
 
 pub stay-requires-clause-port : goal.stay-requires-clause-port
 stay-requires-clause-port c =
@@ -97,16 +118,20 @@ overflow_add-sum c =
     c.requires.stream at c.loop-hop.invariant.added c.get.ensures in
     let way = way_there network rows c.args.stream leg hop port class c.loop-hop.way c.streams.ensures.rules
     c.requires.stream c.requires.leg at c.loop-hop.invariant.way in
-    let share = share_is network rows c.args.stream port class c.index-streams-stream.result c.stay.result
-    c.loop-hop.way c.bits_within.result stream c.stay.ensures way c.bits_within.ensures in
+    let counted = counted_there network c.args.stream leg hop port class c.loop-hop.before c.unwrap_or.result
+    c.streams.ensures.rules c.requires.stream c.requires.leg at c.loop-hop.invariant.before c.unwrap_or.ensures in
+    let seen = seen_there network c.args.stream port c.topology.result.now c.index-streams-stream.result
+    c.unwrap_or.result c.committed_at-seen.result c.topology.ensures.value stream counted c.committed_at-seen.ensures in
+    let share = share_is network rows c.args.stream port class c.committed_at-seen.result c.stay.result
+    c.loop-hop.way c.bits_within.result seen c.stay.ensures way c.bits_within.ensures in
     omega (
       arith,
       sum,
       share,
-      shares-most network rows c.streams.ensures.rules c.requires.holds port class c.args.stream,
-      share-most network rows c.streams.ensures.rules c.requires.holds port class
-          (stream_at network c.args.stream)
-          (c.streams.ensures.rules.streams c.args.stream no_stream c.requires.stream),
+      shares-most network rows c.streams.ensures.rules c.requires.holds port class c.args.stream at.least,
+      share-most network rows c.streams.ensures.rules c.requires.holds port class c.args.stream
+          c.requires.stream at.least
+          (eq-eqb (class_at (stream_sender (stream_at network c.args.stream)) port) class at.ranked),
     )
 
 pub set-requires-clause-port : goal.set-requires-clause-port
@@ -154,12 +179,17 @@ loop-hop-preserved c =
     c.requires.stream at c.loop-hop.invariant.added c.get.ensures in
     let way = way_there network rows c.args.stream leg hop port class c.loop-hop.way c.streams.ensures.rules
     c.requires.stream c.requires.leg at c.loop-hop.invariant.way in
-    let share = share_is network rows c.args.stream port class c.index-streams-stream.result c.stay.result
-    c.loop-hop.way c.bits_within.result stream c.stay.ensures way c.bits_within.ensures in
+    let counted = counted_there network c.args.stream leg hop port class c.loop-hop.before c.unwrap_or.result
+    c.streams.ensures.rules c.requires.stream c.requires.leg at c.loop-hop.invariant.before c.unwrap_or.ensures in
+    let seen = seen_there network c.args.stream port c.topology.result.now c.index-streams-stream.result
+    c.unwrap_or.result c.committed_at-seen.result c.topology.ensures.value stream counted c.committed_at-seen.ensures in
+    let share = share_is network rows c.args.stream port class c.committed_at-seen.result c.stay.result
+    c.loop-hop.way c.bits_within.result seen c.stay.ensures way c.bits_within.ensures in
     record {
       added = added_hop network rows c.args.stream leg hop port class c.loop-hop.sums c.set.new.self c.get.result
           c.bits_within.result c.streams.ensures.rules c.requires.stream at c.loop-hop.invariant.added sum share
           c.set.ensures;
+      before = before_next network c.args.stream leg hop port class at;
       way = way_next network rows c.args.stream leg hop port class c.way_over-way.result c.requires.stream at
           c.way_over-way.ensures;
     }

@@ -8,7 +8,7 @@ use Rattle.ats_buffer.specs.Sums.{AreAdding}
 use Rattle.ats_buffer.proofs.ShareLemmas.{stream_at}
 use Rattle.ats_buffer.proofs.shares.add_leg.Given as goal
 
--- the stream is added at the hops so far, and the way to the next port is known
+-- the stream is added at the hops so far, and the port before the next one is known, and the way over it
 abbrev pub invariant-loop-hop : goal.invariant-loop-hop
 invariant-loop-hop l =
     let legs = legs_at l.network l.stream in
@@ -16,5 +16,6 @@ invariant-loop-hop l =
     record {
       added : AreAdding l.network l.rows.rows l.stream (take (place_of legs l.leg l.hop)
           (stream_at l.network l.stream).ports) l.sums;
+      before : l.before ≡ in_front_of s l.leg l.hop;
       way : l.way ≡ way_behind l.network l.rows.rows s (in_front_of s l.leg l.hop);
     }

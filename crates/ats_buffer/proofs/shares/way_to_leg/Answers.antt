@@ -1,5 +1,7 @@
-use Rattle.std.proofs.Common.{◌-◌, ℕ, List, length, slice_index_or, ap, arith}
-use Rattle.ats_buffer.proofs.Hops.{hop_is, leads_by, none_leads_there, way_to_branch}
+use Rattle.std.proofs.Common.{◌-◌, ℕ, List, length, slice_index_or, refl, ap, arith}
+use Rattle.ats_network.specs.Senders.{sender_at}
+use Rattle.ats_buffer.specs.Buffer.{way_behind}
+use Rattle.ats_buffer.proofs.Hops.{front_is, hop_is, leads_by, none_leads_there, way_to_branch}
 use Rattle.ats_buffer.proofs.shares.way_to_leg.Goals as goal
 
 pub sender_leg-requires-clause-leg : goal.sender_leg-requires-clause-leg
@@ -74,8 +76,17 @@ way_over-requires-clause-class c =
     c.class_of-class.ensures in
     at.most
 
-pub returns : goal.returns
-returns c =
+pub returns-clause-port : goal.returns-clause-port
+returns-clause-port c =
+    let leads = leads_by c.args.network.now c.streams.result.now c.args.stream c.args.leg c.index-streams-stream.result
+    c.branch-branch.result c.streams.ensures.rules c.streams.ensures.value c.requires.stream c.index-streams-stream.is
+    (omega (arith, c.if-leg-eq0.false)) c.requires.leg c.branch-branch.ensures.value
+    (omega (arith, c.if-branch-eq0.false)) in
+    front_is c.args.network.now c.args.stream c.args.leg c.branch-branch.result c.sender_leg.result.now _ leads
+    c.sender_leg.ensures.value refl
+
+pub returns-clause-way : goal.returns-clause-way
+returns-clause-way c =
     let leads = leads_by c.args.network.now c.streams.result.now c.args.stream c.args.leg c.index-streams-stream.result
     c.branch-branch.result c.streams.ensures.rules c.streams.ensures.value c.requires.stream c.index-streams-stream.is
     (omega (arith, c.if-leg-eq0.false)) c.requires.leg c.branch-branch.ensures.value
@@ -88,9 +99,17 @@ returns c =
     (slice_index_or c.sender_leg.result.now (c.branch-branch.result.hop - 1) 0) c.class_of-class.result
     c.way_over.result c.requires.stream leads at c.way_over.ensures
 
-pub returns-then-branch-eq0 : goal.returns-then-branch-eq0
-returns-then-branch-eq0 c =
-    none_leads_there c.args.network.now c.args.rows.now.rows c.streams.result.now c.args.stream c.args.leg
+pub returns-then-branch-eq0-clause-port : goal.returns-then-branch-eq0-clause-port
+returns-then-branch-eq0-clause-port c =
+    none_leads_there c.args.network.now c.streams.result.now c.args.stream c.args.leg
     c.index-streams-stream.result c.branch-branch.result c.streams.ensures.value c.requires.stream
     c.index-streams-stream.is (omega (arith, c.if-leg-eq0.false)) c.branch-branch.ensures.value
     (omega (arith, c.if-branch-eq0.true))
+
+pub returns-then-branch-eq0-clause-way : goal.returns-then-branch-eq0-clause-way
+returns-then-branch-eq0-clause-way c =
+    ap (way_behind c.args.network.now c.args.rows.now.rows (sender_at c.args.network.now c.args.stream))
+    (none_leads_there c.args.network.now c.streams.result.now c.args.stream c.args.leg
+    c.index-streams-stream.result c.branch-branch.result c.streams.ensures.value c.requires.stream
+    c.index-streams-stream.is (omega (arith, c.if-leg-eq0.false)) c.branch-branch.ensures.value
+    (omega (arith, c.if-branch-eq0.true)))

@@ -8,7 +8,7 @@ use Rattle.ats_checker.specs.Refusal.{refusal_of}
 use Rattle.ats_checker.specs.declared.refusal.Refusal.{Refusal}
 use Rattle.ats_checker.proofs.Refused.{refused_unless_holding}
 use Rattle.ats_checker.proofs.Inside.{refusal_inside}
-use Rattle.ats_soundness_law.proofs.Soundness.{certificate_is_sound}
+use Rattle.ats_soundness_law.proofs.TrueTime.{certificate_is_sound}
 use Rattle.ats_checker.proofs.judgement.check.Goals as goal
 
 -- what is found for the delays and tallies is so of the network and the rows that they are of

@@ -46,18 +46,18 @@ loop-hop-preserved c =
     ap (λ (ports : List ℕ). length ports) same in
     let here : slice_index_or c.sender_ports-port-items.result.now hop 0 ≡ slice_index_or sender.ports hop 0 =
     ap (λ (ports : List ℕ). slice_index_or ports hop 0) same in
-    let seen : port_sender c.at-seen.result ≡ seen_at (slice_index_or sender.ports hop 0) sender =
+    let seen : port_sender c.at-seen.result ≡ seen_at network.topology (slice_index_or sender.ports hop 0) sender =
     c.at-seen.ensures.seen
     ∙ ap (λ (n : DeclaredNetwork).
-    seen_at (slice_index_or (sender_at n c.args.sender).ports hop 0) (sender_at n c.args.sender))
+    seen_at n.topology (slice_index_or (sender_at n c.args.sender).ports hop 0) (sender_at n c.args.sender))
     c.network-network.ensures.value in
     let named : c.sender_name-name.result ≡ sender.name =
     c.sender_name-name.ensures.value
     ∙ ap (λ (n : DeclaredNetwork). (sender_at n c.args.sender).name) c.network-network.ensures.value in
     along_more network sender hop c.args.names.now c.loop-hop.names c.name_at.new.names
     (omega (arith, long)) c.loop-hop.invariant
-    (subst (λ (port : ℕ). NamesAt network port (seen_at (slice_index_or sender.ports hop 0) sender) sender.name 8
-    c.loop-hop.names c.name_at.new.names) here
+    (subst (λ (port : ℕ). NamesAt network port (seen_at network.topology (slice_index_or sender.ports hop 0) sender)
+    sender.name 8 c.loop-hop.names c.name_at.new.names) here
     (subst (λ (s : PortSender). NamesAt network (slice_index_or c.sender_ports-port-items.result.now hop 0) s
     sender.name 8 c.loop-hop.names c.name_at.new.names) seen
     (subst (λ (name : List ℕ). NamesAt network (slice_index_or c.sender_ports-port-items.result.now hop 0)

@@ -40,7 +40,7 @@ with_sender-requires-clause-room c =
     (sender_keeps network c.args.sender c.sender_ports-port-items.ensures.rules c.requires.sender)
     c.sender_ports-port-items.ensures.value c.loop-hop-test.true c.at-seen.ensures.seen in
     entry_room network s (get_or c.sender_ports-port-items.result.now c.loop-hop.hop 0) c.loop-hop.hop
-    (port_sender c.at-seen.result) c.args.shares.now c.loop-hop.shares (counted s c.args.shares.now)
+    (port_sender c.at-seen.result) c.args.shares.now c.loop-hop.shares (counted network.topology s c.args.shares.now)
     c.get-share.result entry c.loop-hop.invariant c.requires.room c.get-share.ensures
 
 pub set-requires-clause-port : goal.set-requires-clause-port
@@ -77,6 +77,7 @@ returns c =
     let s : Sender = sender_at c.args.network.now c.args.sender in
     let end : length s.ports ≤ c.loop-hop.hop =
     omega (arith, c.loop-hop-test.false, ap length c.sender_ports-port-items.ensures.value) in
-    entered_all s c.args.shares.now c.loop-hop.shares
-    (subst (λ (path : List ℕ). ChangesAlong (counted s c.args.shares.now) s path c.args.shares.now c.loop-hop.shares)
+    entered_all c.args.network.now.topology s c.args.shares.now c.loop-hop.shares
+    (subst (λ (path : List ℕ). ChangesAlong
+    (counted c.args.network.now.topology s c.args.shares.now) s path c.args.shares.now c.loop-hop.shares)
     (take_all c.loop-hop.hop s.ports end) c.loop-hop.invariant)

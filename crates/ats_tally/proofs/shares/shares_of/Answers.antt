@@ -1,4 +1,4 @@
-use Rattle.std.proofs.Common.{length, arith}
+use Rattle.std.proofs.Common.{arith}
 use Rattle.ats_network.specs.Network.{senders_of}
 use Rattle.ats_network.specs.Senders.{no_sender}
 use Rattle.ats_tally.proofs.Changed.{entered_next}
@@ -10,7 +10,7 @@ enter_along-requires-clause-room c = room_first c.args.network.now c.loop-sender
     c.senders-sender-end.ensures.rules c.loop-sender.invariant
 
 pub loop-sender-preserved : goal.loop-sender-preserved
-loop-sender-preserved c = entered_next (length c.args.network.now.topology.ports) (senders_of c.args.network.now)
+loop-sender-preserved c = entered_next c.args.network.now.topology (senders_of c.args.network.now)
     c.loop-sender.sender no_sender c.loop-sender.shares c.enter_along.new.shares
     (omega (arith, c.loop-sender-test.true, c.senders-sender-end.ensures.value)) c.loop-sender.invariant
     c.enter_along.ensures

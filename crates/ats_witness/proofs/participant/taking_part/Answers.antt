@@ -1,11 +1,12 @@
 use Rattle.std.proofs.Common.{◌≡◌, ℕ, List, false, length, Option, sym, ap, subst, ◌∙◌, arith, sum_by}
 use Rattle.std.specs.Prelude.{MatchOption, slice_index_or}
-use Rattle.ats_network.specs.Class.{PortSender, seen_at}
+use Rattle.ats_network.specs.Class.{class_at}
+use Rattle.ats_network.specs.Rates.{ports_to}
+use Rattle.ats_network.specs.Sender.{Sender}
 use Rattle.ats_network.specs.Senders.{sender_at}
 use Rattle.ats_certificate.specs.PortSums.{uses}
-use Rattle.ats_tally.specs.SenderAtPort.{port_sender}
 use Rattle.ats_tally.proofs.Network.{few_ports}
-use Rattle.ats_witness.specs.Burst.{ports_to, time_over}
+use Rattle.ats_witness.specs.Burst.{time_over}
 use Rattle.ats_witness.specs.Made.{IsParticipant}
 use Rattle.ats_witness.specs.declared.participant.Participant.{Participant}
 use Rattle.ats_witness.proofs.TravelLemmas.{not_on, on_path}
@@ -37,14 +38,15 @@ returns c =
     let same : ports ≡ s.ports = c.sender_ports.ensures.value in
     let port : slice_index_or s.ports c.in_ok-place.place 0 ≡ c.args.port =
     ap (λ (l : List ℕ). slice_index_or l c.in_ok-place.place 0) (sym same) ∙ on.there in
-    let seen : port_sender c.at-seen.result ≡ seen_at c.args.port s =
-    c.at-seen.ensures.seen ∙ ap (λ (p : ℕ). seen_at p s) port in
+    let longest = c.burst_and_longest-burst_bits.ensures.longest
+    ∙ ap (λ (x : Sender). x.max_octets) c.sender.ensures.value in
     record {
       used = ap (λ (l : List ℕ). uses c.args.port (record s { ports = l })) (sym same) ∙ on.has;
-      seen = seen;
+      class = c.sender_class.ensures.port ∙ ap (class_at s) port;
+      burst = c.burst_and_longest-burst_bits.ensures.burst ∙ ap (λ (x : Sender). x.burst_bits) c.sender.ensures.value;
+      longest = longest;
+      size = c.burst_and_longest-burst_bits.ensures.size;
       travel = c.travel_to.ensures.value
-          ∙ ap (λ (n : ℕ). sum_by (time_over network n) (ports_to s c.args.port))
-          (ap (λ (p : PortSender). p.max_octets) seen);
+          ∙ ap (λ (n : ℕ). sum_by (time_over network n) (ports_to s c.args.port)) longest;
       most = c.travel_to.ensures.most;
-      limits = c.at-seen.ensures.limits;
     }

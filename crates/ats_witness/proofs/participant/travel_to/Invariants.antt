@@ -1,7 +1,7 @@
 use Rattle.std.proofs.Common.{◌≡◌, drop}
+use Rattle.ats_network.specs.Rates.{in_front_on, ports_to}
 use Rattle.ats_network.specs.Senders.{sender_at}
 use Rattle.ats_trace.specs.Ways.{routes_by}
-use Rattle.ats_witness.specs.Burst.{in_front_on, ports_to}
 use Rattle.ats_witness.proofs.participant.travel_to.Given as goal
 
 -- no route so far has the port
