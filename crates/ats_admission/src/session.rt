@@ -81,8 +81,9 @@ impl Session {
     ///
     /// The session stays as it was. The first of these, in this order: `NameTaken` exactly where a stream or a flow has
     /// the name; `Limit` exactly where 4096 streams are there, or where their ports and those of the new one are more
-    /// than 65,536; `Because` with the reason against the network with the stream added last exactly where there is
-    /// one; `Failure::NoMemory` where memory runs out.
+    /// than 65,536, or where, by the clocks on its way, a rate or a burst of the new one at one of its ports is over
+    /// the limits of a scheduler; `Because` with the reason against the network with the stream added last exactly
+    /// where there is one; `Failure::NoMemory` where memory runs out.
     pub fn admit(&mut self, stream: Stream) -> Result<u128, Failure<Denied>>
         requires { MayEnter self.old stream }
         ensures answer { Gives result (admit self.old stream) }

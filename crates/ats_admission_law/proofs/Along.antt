@@ -16,6 +16,7 @@ use Rattle.ats_network.specs.Residence.{residence_after}
 use Rattle.ats_certificate.specs.PortSums.{PortSums, is_used}
 use Rattle.ats_certificate.specs.Used.{places_of}
 use Rattle.ats_certificate.specs.declared.row.Row.{Row}
+use Rattle.ats_certificate.specs.Certificate.{need_behind}
 use Rattle.ats_tally.specs.Reason.{first_some, overstay, row_need, late}
 use Rattle.ats_tally.specs.declared.reason.Reason.{Reason}
 use Rattle.ats_tally.proofs.Lists.{none_first}
@@ -107,7 +108,7 @@ module _ (p : Parts) (x : DeclaredStream) (is : IsNetwork (more p x)) (none : re
       by_stay row (row_need (more p x) row) (residence_after p.topology at.0)
       (λ ns residence. (
       let stay = may_stay (less p) at.0 at.1 (less_is p x is) no_stay used ns residence in
-      let same = ap (λ (r : Row). r.wait) s.row in
+      let same = ap (λ (r : Row). need_behind (more p x) at.0 r.wait) s.row in
       omega (arith, stay, same)))))
 
   times_along : first_some (late p.topology (least_certificate (more p x))) (more p x).streams

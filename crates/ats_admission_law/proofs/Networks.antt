@@ -11,6 +11,7 @@ use Rattle.ats_streams.specs.Flow.{DeclaredFlow}
 use Rattle.ats_network.specs.Sender.{Sender, stream_sender, flow_sender}
 use Rattle.ats_network.specs.Path.{IsTree}
 use Rattle.ats_network.specs.Network.{DeclaredNetwork, HasShortRoutes, IsNetwork, Share, names_of, network_within}
+use Rattle.ats_network.specs.Rates.{HasRates}
 use Rattle.ats_network.specs.Network.{senders_of}
 use Rattle.ats_network.proofs.NameLemmas.{pairs_from_apart, apart_from_pairs}
 use Rattle.ats_admission_law.specs.Less.{IsLessBy}
@@ -116,6 +117,7 @@ less_is p x is = record {
   most_ports = is.most_ports;
   short_streams = all_less (HasShortRoutes p.most) p.front x p.back is.short_streams;
   short_flows = is.short_flows;
+  rates = all_less (HasRates p.topology) p.front x p.back is.rates;
 }
   where
     many : DeclaredStream → ℕ

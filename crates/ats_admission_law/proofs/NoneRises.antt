@@ -18,6 +18,7 @@ use Rattle.ats_certificate.specs.PortSums.{PortSums, port_sums, is_used}
 use Rattle.ats_certificate.specs.Certificate.{IsInTime, bound_at, bound_of_hop, bound_on}
 use Rattle.ats_certificate.specs.Used.{places_of}
 use Rattle.ats_certificate.specs.declared.row.Row.{Row}
+use Rattle.ats_tally.proofs.NeedParts.{need_grows}
 use Rattle.ats_tally.specs.Reason.{first_some, overstay, row_need, late}
 use Rattle.ats_tally.proofs.Lists.{first_some-none, none_first}
 use Rattle.ats_tally.proofs.Places.{is_place, places_used}
@@ -127,7 +128,8 @@ module _ (p : Parts) (x : DeclaredStream) (is : IsNetwork (more p x)) where
       by_stay row (row_need (less p) row) (residence_after p.topology at.0)
       (λ ns residence. (
       let stay = may_stay (more p x) at.0 at.1 is second.0 f.used ns residence in
-      omega (arith, stay, f.wait))))))
+      let grows = need_grows (more p x) at.0 row.wait (least_row (more p x) (at.0, at.1)).wait f.wait in
+      omega (arith, stay, grows))))))
 
   no_lates : reason_of (more p x) ≡ None
       → first_some (late p.topology (least_certificate (less p))) (less p).streams ≡ None

@@ -62,13 +62,14 @@ module _ (p : Parts) (x : DeclaredStream) where
       let link : Port = port_at p.topology.ports port in
       let front : List Sender = map stream_sender p.front in
       let back : List Sender = map stream_sender p.back in
-      let same : senders_at port (senders_of (less p)) ≡ senders_at port (senders_of (more p x)) =
-      ap (senders_at port) (senders_less p) ∙ at_same port front (stream_sender x) (behind p) unused
-      ∙ sym (ap (senders_at port) (senders_more p x)) in
-      let streams : senders_at port (map stream_sender (less p).streams)
-      ≡ senders_at port (map stream_sender (more p x).streams) =
-      ap (senders_at port) (streams_less p) ∙ at_same port front (stream_sender x) back unused
-      ∙ sym (ap (senders_at port) (streams_more p x)) in
+      let same : senders_at p.topology port (senders_of (less p)) ≡ senders_at p.topology port (senders_of (more p x)) =
+      ap (senders_at p.topology port) (senders_less p)
+      ∙ at_same p.topology port front (stream_sender x) (behind p) unused
+      ∙ sym (ap (senders_at p.topology port) (senders_more p x)) in
+      let streams : senders_at p.topology port (map stream_sender (less p).streams)
+      ≡ senders_at p.topology port (map stream_sender (more p x).streams) =
+      ap (senders_at p.topology port) (streams_less p) ∙ at_same p.topology port front (stream_sender x) back unused
+      ∙ sym (ap (senders_at p.topology port) (streams_more p x)) in
       let sums : port_sums (less p) port class ≡ port_sums (more p x) port class =
       ap (λ (ss : List PortSender). sums_over link.ps_per_bit class ss) same in
       record {

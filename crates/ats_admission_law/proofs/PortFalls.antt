@@ -33,14 +33,14 @@ streams_less p = map-append stream_sender p.front p.back
 pub still_used : (p : Parts) (x : DeclaredStream) (port class : ℕ) → is_used (less p) port class ≡ true
     → is_used (more p x) port class ≡ true
 still_used p x port class used =
-    let front : List PortSender = senders_at port (map stream_sender p.front) in
-    let back : List PortSender = senders_at port (map stream_sender p.back) in
-    let seen : PortSender = seen_at port (stream_sender x) in
+    let front : List PortSender = senders_at p.topology port (map stream_sender p.front) in
+    let back : List PortSender = senders_at p.topology port (map stream_sender p.back) in
+    let seen : PortSender = seen_at p.topology port (stream_sender x) in
     let some : list_any (is_of class) (front ++ back) ≡ true =
-    sym (ap (list_any (is_of class)) (ap (senders_at port) (streams_less p)
-    ∙ senders_at-append port (map stream_sender p.front) (map stream_sender p.back))) ∙ used in
-    ap (list_any (is_of class)) (ap (senders_at port) (streams_more p x)
-    ∙ at_more port (map stream_sender p.front) (stream_sender x) (map stream_sender p.back))
+    sym (ap (list_any (is_of class)) (ap (senders_at p.topology port) (streams_less p)
+    ∙ senders_at-append p.topology port (map stream_sender p.front) (map stream_sender p.back))) ∙ used in
+    ap (list_any (is_of class)) (ap (senders_at p.topology port) (streams_more p x)
+    ∙ at_more p.topology port (map stream_sender p.front) (stream_sender x) (map stream_sender p.back))
     ∙ by (uses port (stream_sender x)) front seen back some
   where
     by : (b : Bool) (front : List PortSender) (seen : PortSender) (back : List PortSender)
@@ -110,15 +110,16 @@ port_falls p x port class is used =
     let ps : ℕ = (port_at p.topology.ports port).ps_per_bit in
     let others : IsNetwork (less p) = less_is p x is in
     let shaped : 1 ≤ class = used_class (less p) port class others used in
-    let front : List PortSender = senders_at port (map stream_sender p.front) in
-    let back : List PortSender = senders_at port (behind p) in
-    let seen : PortSender = seen_at port (stream_sender x) in
-    let after : senders_at port (senders_of (less p)) ≡ front ++ back =
-    ap (senders_at port) (senders_less p) ∙ senders_at-append port (map stream_sender p.front) (behind p) in
-    let before : senders_at port (senders_of (more p x))
+    let front : List PortSender = senders_at p.topology port (map stream_sender p.front) in
+    let back : List PortSender = senders_at p.topology port (behind p) in
+    let seen : PortSender = seen_at p.topology port (stream_sender x) in
+    let after : senders_at p.topology port (senders_of (less p)) ≡ front ++ back =
+    ap (senders_at p.topology port) (senders_less p)
+    ∙ senders_at-append p.topology port (map stream_sender p.front) (behind p) in
+    let before : senders_at p.topology port (senders_of (more p x))
     ≡ front ++ cond (uses port (stream_sender x)) (seen ∷ back) back =
-    ap (senders_at port) (senders_more p x)
-    ∙ at_more port (map stream_sender p.front) (stream_sender x) (behind p) in
+    ap (senders_at p.topology port) (senders_more p x)
+    ∙ at_more p.topology port (map stream_sender p.front) (stream_sender x) (behind p) in
     let all : All IsSeen (front ++ back) = subst (λ (ss : List PortSender). All IsSeen ss) after
     (all_seen p.topology port (senders_of (less p)) (each_is_sender (less p) others)) in
     let any : list_any (is_of class) (front ++ back) ≡ true =

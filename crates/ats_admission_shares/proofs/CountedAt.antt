@@ -22,7 +22,7 @@ use Rattle.ats_admission_shares.proofs.Entered.{eight_entered, entry_used, less_
 pub record IsCountedAt (network : DeclaredNetwork) (port : ℕ) (seen : PortSender) (eight : List Share) : Type 0 where
   pub room : IsLimited MAX_SENDERS (get_or eight seen.class no_share)
   pub limits : All (IsLimited MAX_SENDERS) (set eight seen.class (share_with seen (get_or eight seen.class no_share)))
-  pub counted : AreShares (senders_at port (senders_of network))
+  pub counted : AreShares (senders_at network.topology port (senders_of network))
       (set eight seen.class (share_with seen (get_or eight seen.class no_share)))
 
 pub counted_is : (network : DeclaredNetwork) (n port hop : ℕ) (seen : PortSender) (shares : Table Share)
@@ -35,25 +35,25 @@ counted_is network n port hop seen shares eight rules within entry are at =
     rest_rules : IsNetwork (without_at network n)
     rest_rules = less_is_network network (without_at network n) (stream_at network n) (less_by network n within) rules
 
-    before : AreShares (senders_at port (senders_of (without_at network n))) eight
-    before = eight_are (length network.topology.ports) (senders_of (without_at network n)) shares port eight are
+    before : AreShares (senders_at network.topology port (senders_of (without_at network n))) eight
+    before = eight_are network.topology (senders_of (without_at network n)) shares port eight are
         entry.inside at
 
     room : IsLimited MAX_SENDERS (get_or eight seen.class no_share)
     room = subst (IsLimited MAX_SENDERS) (sym (get_or_from_slice_get eight seen.class
-        (share_of seen.class (senders_at port (senders_of (without_at network n)))) no_share
+        (share_of seen.class (senders_at network.topology port (senders_of (without_at network n)))) no_share
         (before seen.class entry.most)))
-        (limited_at port seen.class MAX_SENDERS (senders_of (without_at network n))
+        (limited_at network.topology port seen.class MAX_SENDERS (senders_of (without_at network n))
         (all_small (without_at network n) rest_rules) (few_senders (without_at network n) rest_rules))
 
-    counted : AreShares (senders_at port (senders_of network))
+    counted : AreShares (senders_at network.topology port (senders_of network))
         (set eight seen.class (share_with seen (get_or eight seen.class no_share)))
     counted = eight_entered network (without_at network n) (stream_at network n) (less_by network n within) port seen
         eight at.count (entry_used network (stream_sender (stream_at network n)) port hop seen entry) entry.is
         entry.most before
 
     limits : All (IsLimited MAX_SENDERS) (set eight seen.class (share_with seen (get_or eight seen.class no_share)))
-    limits = limited_eight port MAX_SENDERS (senders_of network)
+    limits = limited_eight network.topology port MAX_SENDERS (senders_of network)
         (set eight seen.class (share_with seen (get_or eight seen.class no_share)))
         (all_small network rules) (few_senders network rules)
         (length-set eight seen.class (share_with seen (get_or eight seen.class no_share)) ∙ at.count) counted

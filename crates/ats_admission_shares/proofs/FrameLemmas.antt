@@ -13,7 +13,7 @@ use Rattle.ats_network.specs.Sender.{stream_sender, flow_sender}
 use Rattle.ats_certificate.specs.PortSums.{is_of, longest, shortest, senders_at}
 use Rattle.ats_tally.specs.Tally.{least_with, least_known}
 use Rattle.ats_tally.proofs.SeenLemmas.{flows_class, senders_at-append}
-use Rattle.ats_admission_shares.specs.Frames.{exceeds, frames_in, frames_of, frames_with, is_inside}
+use Rattle.ats_admission_shares.specs.Frames.{exceeds, frames_in, frames_of, frames_with, is_inside, without_rate}
 use Rattle.ats_tally.specs.Shares.{share_of, share_with}
 use Rattle.ats_admission_shares.specs.declared.frames.Frames.{Frames}
 use Rattle.ats_tally.proofs.Inserted.{made, share_in}
@@ -43,40 +43,45 @@ frames_equal a b h =
 
 -- one sender more is counted, where it is of the class
 pub frames_more : (class : ℕ) (senders : List PortSender) (i : ℕ) (s : PortSender) → i < length senders
-    → ((d : PortSender) → s ≡ get_or senders i d)
+    → ((d : PortSender) → s ≡ without_rate (get_or senders i d))
     → cond (is_of class s) (frames_with s (frames_of class (take i senders))) (frames_of class (take i senders))
     ≡ frames_of class (take (i + 1) senders)
 frames_more class senders i s within is =
-    by (is_of class s)
-    ∙ sym (ap frames_in (ap (share_of class) (take_more senders i s within
-    ∙ ap (λ (t : PortSender). take i senders ++ t ∷ []) (sym (is s)))
-    ∙ share_in class (take i senders) s [] (is_of class s) refl
-    ∙ ap (λ (l : List PortSender). cond (is_of class s) (share_with s (share_of class l)) (share_of class l))
+    ap (λ (u : PortSender). cond (is_of class u) (frames_with u first) first) (is s)
+    ∙ by (is_of class t)
+    ∙ sym (ap frames_in (ap (share_of class) (take_more senders i s within)
+    ∙ share_in class (take i senders) t [] (is_of class t) refl
+    ∙ ap (λ (l : List PortSender). cond (is_of class t) (share_with t (share_of class l)) (share_of class l))
     (append-nil (take i senders))))
   where
-    by : (b : Bool)
-        → cond b (frames_with s (frames_of class (take i senders))) (frames_of class (take i senders))
-        ≡ frames_in (cond b (share_with s (share_of class (take i senders))) (share_of class (take i senders)))
+    t : PortSender
+    t = get_or senders i s
+
+    first : Frames
+    first = frames_of class (take i senders)
+
+    by : (b : Bool) → cond b (frames_with t first) first
+        ≡ frames_in (cond b (share_with t (share_of class (take i senders))) (share_of class (take i senders)))
     by true = refl
     by false = refl
 
 -- flows are of no class of streams
 pub streams_alone : (network : DeclaredNetwork) (port class : ℕ) → 1 ≤ class
-    → share_of class (senders_at port (map stream_sender network.streams))
-    ≡ share_of class (senders_at port (senders_of network))
+    → share_of class (senders_at network.topology port (map stream_sender network.streams))
+    ≡ share_of class (senders_at network.topology port (senders_of network))
 streams_alone network port class some =
-    sym (ap made (ap (filter (is_of class)) (senders_at-append port (map stream_sender network.streams)
+    sym (ap made (ap (filter (is_of class)) (senders_at-append network.topology port (map stream_sender network.streams)
     (map flow_sender network.flows))
     ∙ filter-append (is_of class) streams flows
     ∙ ap (λ (l : List PortSender). filter (is_of class) streams ++ l)
-    (none_kept (is_of class) flows (flows_class port class network.flows some))
+    (none_kept (is_of class) flows (flows_class network.topology port class network.flows some))
     ∙ append-nil (filter (is_of class) streams)))
   where
     streams : List PortSender
-    streams = senders_at port (map stream_sender network.streams)
+    streams = senders_at network.topology port (map stream_sender network.streams)
 
     flows : List PortSender
-    flows = senders_at port (map flow_sender network.flows)
+    flows = senders_at network.topology port (map flow_sender network.flows)
 
 -- a greatest number that is no less than all numbers is the greatest of all; so it is with a least one
 from_start : (a : ℕ) (ns : List ℕ) → a ≤ fold max a ns

@@ -8,6 +8,7 @@ use Rattle.ats_topology.specs.Topology.{DeclaredTopology}
 use Rattle.ats_streams.specs.Stream.{DeclaredStream, IsStream}
 use Rattle.ats_network.specs.Class.{PortSender, seen_at}
 use Rattle.ats_network.specs.Network.{DeclaredNetwork, IsNetwork, senders_of}
+use Rattle.ats_network.specs.Rates.{HasRates}
 use Rattle.ats_network.specs.Sender.{Sender, stream_sender}
 use Rattle.ats_network.specs.Senders.{IsSender}
 use Rattle.ats_network.proofs.ClassLemmas.{class_at-stream}
@@ -34,11 +35,23 @@ module _ (network : DeclaredNetwork) (x : DeclaredStream) (shares : Table Share)
       parts : Parts
       parts = parts_of b.old network x b.is_less
 
-  pub leaving_entry : (listed : List ℕ) (hop : ℕ) (seen : PortSender) → listed ≡ x.ports → hop < length listed
-      → seen ≡ seen_at (get_or x.ports hop 0) (stream_sender x)
+  -- and a scheduler may have its rates and bursts
+  pub left_rates : HasRates network.topology x
+  left_rates = subst (λ (t : DeclaredTopology). HasRates t x) (sym b.is_less.topology)
+      (by_parts (λ o n. IsNetwork o → HasRates o.topology x) b.old network x b.is_less
+      (λ rules. all_one (HasRates b.old.topology) parts.front x parts.back rules.rates) b.rules)
+    where
+      parts : Parts
+      parts = parts_of b.old network x b.is_less
+
+  pub leaving_entry : (topology : DeclaredTopology) (listed : List ℕ) (hop : ℕ) (seen : PortSender)
+      → topology ≡ network.topology → listed ≡ x.ports → hop < length listed
+      → seen ≡ seen_at topology (get_or x.ports hop 0) (stream_sender x)
       → IsEntry b.old (stream_sender x) (get_or listed hop 0) hop seen
-  leaving_entry listed hop seen same within is =
-      entry_is b.old (stream_sender x) listed hop seen left_keeps same within is
+  leaving_entry topology listed hop seen over same within is =
+      entry_is b.old (stream_sender x) listed hop seen left_keeps same within
+      (is ∙ ap (λ (t : DeclaredTopology). seen_at t (get_or x.ports hop 0) (stream_sender x))
+      (over ∙ b.is_less.topology))
 
   -- its port is still there, and it is of a class of streams
   pub leaving_inside : (port hop : ℕ) (seen : PortSender) → IsEntry b.old (stream_sender x) port hop seen
@@ -58,11 +71,13 @@ module _ (network : DeclaredNetwork) (x : DeclaredStream) (shares : Table Share)
   pub leaving_share : (given : ℕ → ℕ → Option Share) (now : Table Share) (port hop : ℕ) (seen : PortSender)
       (share : Share) → IsEntry b.old (stream_sender x) port hop seen
       → ChangesAlong given (stream_sender x) (take hop x.ports) shares now → value_at now port seen.class ≡ Some share
-      → share ≡ share_with seen (share_of seen.class (senders_at port (senders_of network)))
+      → share ≡ share_with seen (share_of seen.class (senders_at network.topology port (senders_of network)))
   leaving_share given now port hop seen share entry before there =
-      same_Some share (share_with seen (share_of seen.class (senders_at port (senders_of network)))) (sym there
+      same_Some share (share_with seen (share_of seen.class (senders_at network.topology port (senders_of network))))
+      (sym there
       ∙ same_until b.old (stream_sender x) port hop seen shares now given entry before
       ∙ share_left b.old network x b.is_less shares now b.counted port seen.class entry.inside entry.most
       (entry_used b.old (stream_sender x) port hop seen entry) (sym (ap (λ (t : PortSender). t.class) entry.is))
-      ∙ ap (λ (t : PortSender). Some (share_with t (share_of seen.class (senders_at port (senders_of network)))))
+      ∙ ap (λ (t : PortSender). Some (share_with t
+      (share_of seen.class (senders_at network.topology port (senders_of network)))))
       (sym entry.is))

@@ -10,6 +10,10 @@ use Rattle.ats_tally.specs.declared.share.Share.{Share}
 abbrev pub no_frames : Frames
 no_frames = record { longest = 0; shortest = None }
 
+-- a sender as a port sees it, but for its rate and its burst
+abbrev pub without_rate : PortSender → PortSender
+without_rate s = record s { rate = 0; burst_bits = 0 }
+
 -- with one sender more
 abbrev pub frames_with : PortSender → Frames → Frames
 frames_with s frames = record {

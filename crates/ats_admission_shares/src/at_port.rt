@@ -24,7 +24,8 @@ pub(crate) fn tallies_entered(
     requires hop { hop < length (stream_at network.now stream).ports }
     requires shares { AreSharesOf (without_at network.now stream) shares.now }
     ensures { AreClassTallies
-        (senders_at (slice_index_or (stream_at network.now stream).ports hop 0) (senders_of network.now)) result }
+        (senders_at network.now.topology (slice_index_or (stream_at network.now stream).ports hop 0)
+        (senders_of network.now)) result }
 {
     let sender = SeenSender::at(network, stream, hop);
     let class = sender.class as usize;

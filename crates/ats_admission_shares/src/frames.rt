@@ -7,7 +7,7 @@ ghost use Rattle.ats_network.specs.Class.{PortSender};
 ghost use Rattle.ats_certificate.specs.PortSums.{senders_at};
 ghost use Rattle.ats_admission_users.specs.Users.{ListsPaths, users_of};
 ghost use Rattle.ats_tally.specs.SenderAtPort.{port_sender, KeepsLimits};
-ghost use Rattle.ats_admission_shares.specs.Frames.{frames_of, frames_with, is_inside, no_frames};
+ghost use Rattle.ats_admission_shares.specs.Frames.{frames_of, frames_with, is_inside, no_frames, without_rate};
 ghost use Rattle.ats_admission_shares.specs.PortShares.{stream_paths};
 
 use ats_admission_users::PortUsers;
@@ -79,8 +79,9 @@ pub(crate) fn frames_left(
     requires limits { KeepsLimits sender.now }
     requires class { 1 ≤ sender.now.class }
     requires before { before ≡ frames_with (port_sender sender.now)
-        (frames_of sender.now.class (senders_at port (senders_of network.now))) }
-    ensures { result ≡ frames_of sender.now.class (senders_at port (senders_of network.now)) }
+        (frames_of sender.now.class (senders_at network.now.topology port (senders_of network.now))) }
+    ensures { result
+        ≡ frames_of sender.now.class (senders_at network.now.topology port (senders_of network.now)) }
 {
     if before.has_inside(sender) {
         return before;
@@ -100,8 +101,9 @@ fn frames_counted(
     requires users { ListsPaths (length network.now.topology.ports) (stream_paths network.now) streams.now }
     requires class { 1 ≤ sender.now.class }
     requires before { before ≡ frames_with (port_sender sender.now)
-        (frames_of sender.now.class (senders_at port (senders_of network.now))) }
-    ensures { result ≡ frames_of sender.now.class (senders_at port (senders_of network.now)) }
+        (frames_of sender.now.class (senders_at network.now.topology port (senders_of network.now))) }
+    ensures { result
+        ≡ frames_of sender.now.class (senders_at network.now.topology port (senders_of network.now)) }
 {
     let mut frames = Frames::new();
     for place in 0..streams.count(port) {
@@ -114,17 +116,23 @@ fn frames_counted(
     frames
 }
 
-// One of the streams that use a port, in order, as the port sees it.
+// One of the streams that use a port, in order, as the port sees it but for its rate and its burst, which no frame
+// depends on.
 fn seen_user(network: &Network, streams: &PortUsers, port: u32, place: usize) -> SeenSender
     requires port { port < length network.now.topology.ports }
     requires users { ListsPaths (length network.now.topology.ports) (stream_paths network.now) streams.now }
     requires place { place < length (users_of (stream_paths network.now) port) }
-    ensures seen { (d : PortSender) → port_sender result
-        ≡ slice_index_or (senders_at port (map stream_sender network.now.streams)) place d }
+    ensures seen { (d : PortSender) → port_sender result ≡ without_rate (slice_index_or
+        (senders_at network.now.topology port (map stream_sender network.now.streams)) place d) }
     ensures limits { KeepsLimits result }
 {
-    let _rules = network.topology(); // for what a network keeps
-    let stream = streams.user(port, place);
-    let hop = streams.hop(port, place) as u32;
-    SeenSender::at(network, stream, hop)
+    let stream = &network.streams()[streams.user(port, place) as usize];
+    let declared = stream.declared();
+    SeenSender {
+        class: stream.classes()[streams.hop(port, place)],
+        rate_bps: 0,
+        burst_bits: 0,
+        min_octets: declared.min_octets,
+        max_octets: declared.max_octets,
+    }
 }

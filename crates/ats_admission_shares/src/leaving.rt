@@ -1,9 +1,7 @@
 //! A stream that is taken out of the shares of the ports that it used.
 
-ghost use Rattle.std.specs.Prelude.{◌≡◌, ◌≢◌, ◌<◌, ◌≤◌, length, AllPairs, slice_index_or};
-ghost use Rattle.ats_network.specs.Class.{seen_at};
+ghost use Rattle.std.specs.Prelude.{◌≡◌, ◌<◌, ◌≤◌, length};
 ghost use Rattle.ats_network.specs.Network.{senders_of};
-ghost use Rattle.ats_network.specs.Sender.{stream_sender};
 ghost use Rattle.ats_certificate.specs.PortSums.{senders_at};
 ghost use Rattle.ats_admission_users.specs.Users.{ListsPaths};
 ghost use Rattle.ats_tally.specs.SenderAtPort.{port_sender, KeepsLimits};
@@ -29,7 +27,7 @@ pub(crate) fn leave_along(
     ensures { AreSharesOf network.now shares.new }
 {
     for (hop, port) in stream.ports().iter().enumerate() {
-        let seen = seen_stream(stream, hop);
+        let seen = SeenSender::of_stream(network.topology(), stream, hop);
         let share = shares.get(*port, seen.class);
         let left = share_left(share, network, streams, *port, &seen);
         shares.set(*port, seen.class, left);
@@ -49,8 +47,9 @@ fn share_left(
     requires limits { KeepsLimits sender.now }
     requires class { 1 ≤ sender.now.class }
     requires share { share ≡ share_with (port_sender sender.now)
-        (share_of sender.now.class (senders_at port (senders_of network.now))) }
-    ensures { result ≡ share_of sender.now.class (senders_at port (senders_of network.now)) }
+        (share_of sender.now.class (senders_at network.now.topology port (senders_of network.now))) }
+    ensures { result
+        ≡ share_of sender.now.class (senders_at network.now.topology port (senders_of network.now)) }
 {
     let before = Frames {
         longest: share.longest,
@@ -63,14 +62,4 @@ fn share_left(
         longest: frames.longest,
         shortest: frames.shortest,
     }
-}
-
-// A stream as the port at this hop sees it.
-fn seen_stream(stream: &Stream, hop: usize) -> SeenSender
-    requires hop { hop < length stream.now.ports }
-    requires apart { AllPairs (λ p q. p ≢ q) stream.now.ports }
-    ensures seen { port_sender result ≡ seen_at (slice_index_or stream.now.ports hop 0) (stream_sender stream.now) }
-    ensures limits { KeepsLimits result }
-{
-    SeenSender::of_stream(stream, stream.classes()[hop])
 }

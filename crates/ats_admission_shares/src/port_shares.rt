@@ -48,7 +48,7 @@ impl PortShares {
     pub fn tallies(&self, network: &Network, port: u32) -> [Tally; CLASSES]
         requires port { port < length network.now.topology.ports }
         requires shares { AreSharesOf network.now self.now }
-        ensures { AreClassTallies (senders_at port (senders_of network.now)) result }
+        ensures { AreClassTallies (senders_at network.now.topology port (senders_of network.now)) result }
     {
         tallies_at(&self.shares, network, port)
     }
@@ -60,7 +60,8 @@ impl PortShares {
         requires hop { hop < length (stream_at network.now stream).ports }
         requires shares { AreSharesOf (without_at network.now stream) self.now }
         ensures { AreClassTallies
-            (senders_at (slice_index_or (stream_at network.now stream).ports hop 0) (senders_of network.now)) result }
+            (senders_at network.now.topology (slice_index_or (stream_at network.now stream).ports hop 0)
+            (senders_of network.now)) result }
     {
         tallies_entered(&self.shares, network, stream, hop)
     }

@@ -76,7 +76,7 @@ ceiling-le n d = elim (cases_eq d 0) as (λ _. ceiling n d ≤ n) [
 -- what all senders at a port make of a class
 tally_at : DeclaredNetwork → ℕ → ℕ → Tally
 tally_at network port class =
-    let senders : List PortSender = senders_at port (senders_of network) in
+    let senders : List PortSender = senders_at network.topology port (senders_of network) in
     record {
       above = sum_where (is_above class) (λ s. s.rate) senders;
       equal = sum_where (is_of class) (λ s. s.rate) senders;
@@ -104,7 +104,7 @@ module _ (network : DeclaredNetwork) (port class : ℕ) (is : IsNetwork network)
       let least : sums.least ≤ MAX_WIRE_BITS = omega (
         arith,
         w.least,
-        least_same (map shortest (filter (is_of class) (senders_at port (senders_of network)))),
+        least_same (map shortest (filter (is_of class) (senders_at network.topology port (senders_of network)))),
       ) in
       let bits : ℕ = sums.lower + sums.bursts - sums.least in
       let few : bits ≤ MAX_WIRE_BITS + MAX_SENDERS * 1000000000 = omega (arith, w.lower, w.bursts) in

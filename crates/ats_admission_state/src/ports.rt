@@ -28,7 +28,7 @@ pub(crate) fn renew_port(
     requires free { reason_of network.now ≡ None }
     requires port { port < length network.now.topology.ports }
     requires count { bounds.old.ports ≡ length network.now.topology.ports }
-    requires tallies { AreClassTallies (senders_at port (senders_of network.now)) tallies.now }
+    requires tallies { AreClassTallies (senders_at network.now.topology port (senders_of network.now)) tallies.now }
     ensures { SetsBelow network.now port 8 bounds.old bounds.new }
 {
     let _ = judge_port(bounds, network, port, tallies);
@@ -48,7 +48,7 @@ pub(crate) fn judge_port(
 ) -> Result<Option<Reason>, Reason>
     requires port { port < length network.now.topology.ports }
     requires count { bounds.old.ports ≡ length network.now.topology.ports }
-    requires tallies { AreClassTallies (senders_at port (senders_of network.now)) tallies.now }
+    requires tallies { AreClassTallies (senders_at network.now.topology port (senders_of network.now)) tallies.now }
     ensures stay { IfOk result (λ stay. stay ≡ found_at (overstay_at network.now) network.now port) }
     ensures fits { OnOk result (found_at (overload network.now) network.now port ≡ None) }
     ensures set { OnOk result (SetsBelow network.now port 8 bounds.old bounds.new) }
@@ -77,7 +77,7 @@ fn judge_class(
     requires port { port < length network.now.topology.ports }
     requires class_least { 1 ≤ class }
     requires class_most { class ≤ 7 }
-    requires tally { IsTally class (senders_at port (senders_of network.now)) tally }
+    requires tally { IsTally class (senders_at network.now.topology port (senders_of network.now)) tally }
     requires count { bounds.old.ports ≡ length network.now.topology.ports }
     ensures stay { IfOk result (λ stay. stay ≡ given_at (overstay_at network.now) network.now port class) }
     ensures fits { OnOk result (given_at (overload network.now) network.now port class ≡ None) }

@@ -120,7 +120,7 @@ fn judge_next(
 ) -> Found
     requires port { port < length network.now.topology.ports }
     requires count { bounds.old.ports ≡ length network.now.topology.ports }
-    requires tallies { AreClassTallies (senders_at port (senders_of network.now)) tallies.now }
+    requires tallies { AreClassTallies (senders_at network.now.topology port (senders_of network.now)) tallies.now }
     ensures load { result.load ≡ lower_of found.load port (found_at (overload network.now) network.now port) }
     ensures stay { result.load ≡ None
         → result.stay ≡ lower_of found.stay port (found_at (overstay_at network.now) network.now port) }

@@ -8,7 +8,7 @@ use Rattle.ats_num.specs.Failure.{unless}
 use Rattle.ats_streams.specs.Stream.{DeclaredStream, IsClass, with_class}
 use Rattle.ats_network.specs.Edits.{stream_named}
 use Rattle.ats_network.specs.Network.{DeclaredNetwork}
-use Rattle.ats_network.specs.Pushes.{with_stream, is_full, is_name_taken}
+use Rattle.ats_network.specs.Pushes.{with_stream, is_beyond, is_name_taken}
 use Rattle.ats_certificate.specs.Used.{stream_classes}
 use Rattle.ats_tally.specs.Reason.{ReasonInside}
 use Rattle.ats_tally.specs.declared.reason.Reason.{Reason}
@@ -30,7 +30,7 @@ use Rattle.ats_admission_text.specs.Inside.{AnswerInside, DeniedInside}
 entry_inside : (network : DeclaredNetwork) (stream : DeclaredStream)
     → IfSome (entry_fault network stream) (DeniedInside network.topology)
 entry_inside network stream =
-    by (is_name_taken network stream.name) (is_full network.streams stream.ports)
+    by (is_name_taken network stream.name) (is_beyond network stream)
   where
     by : (a b : Bool)
         → IfSome (cond a (Some NameTaken) (cond b (Some Limit) None)) (DeniedInside network.topology)

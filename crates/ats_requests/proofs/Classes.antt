@@ -8,7 +8,7 @@ use Rattle.ats_facts.proofs.Lists.{pairs_head, pairs_tail}
 use Rattle.ats_num.specs.Failure.{unless}
 use Rattle.ats_streams.specs.Stream.{DeclaredStream, IsClass, with_class}
 use Rattle.ats_network.specs.Network.{DeclaredNetwork}
-use Rattle.ats_network.specs.Pushes.{is_full, is_name_taken}
+use Rattle.ats_network.specs.Pushes.{is_beyond, is_name_taken}
 use Rattle.ats_certificate.specs.Used.{stream_classes}
 use Rattle.ats_tally.specs.declared.reason.Reason.{Reason}
 use Rattle.ats_requests.specs.Admission.{admit, class_given, class_reason, entry_fault, first_class}
@@ -168,7 +168,7 @@ lowest_is_first network stream class sum h =
 entry_other : (network : DeclaredNetwork) (stream : DeclaredStream) (reasons : List Reason) (P : Type 0)
     → entry_fault network stream ≡ Some (NoClass reasons) → P
 entry_other network stream reasons P h =
-    by (is_name_taken network stream.name) (is_full network.streams stream.ports) h
+    by (is_name_taken network stream.name) (is_beyond network stream) h
   where
     by : (a b : Bool) → cond a (Some NameTaken) (cond b (Some Limit) None) ≡ Some (NoClass reasons) → P
     by true b h = absurd (let no : Some NameTaken ≡ Some (NoClass reasons) = h in cc)

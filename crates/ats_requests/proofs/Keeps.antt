@@ -10,7 +10,7 @@ use Rattle.ats_num.specs.Places.{place_of}
 use Rattle.ats_streams.specs.Stream.{DeclaredStream, IsClass, with_class}
 use Rattle.ats_network.specs.Edits.{less_at, without_named}
 use Rattle.ats_network.specs.Network.{DeclaredNetwork, IsNetwork, senders_of, names_of}
-use Rattle.ats_network.specs.Pushes.{with_stream, is_full, is_name_taken, is_identity_taken}
+use Rattle.ats_network.specs.Pushes.{with_stream, is_beyond, is_name_taken, is_identity_taken}
 use Rattle.ats_network.specs.Tables.{stream_names}
 use Rattle.ats_network.proofs.Edited.{without_network}
 use Rattle.ats_network.proofs.Pushed.{pushed_stream}
@@ -28,15 +28,15 @@ use Rattle.ats_requests.specs.declared.denied.Denied.TheVariants.{NameTaken, Lim
 -- where nothing stands against an entry, the name is free and there is room
 pub record MayComeIn (network : DeclaredNetwork) (stream : DeclaredStream) : Type 0 where
   pub absent : place_of stream.name (names_of (senders_of network)) ≡ None
-  pub room : is_full network.streams stream.ports ≡ false
+  pub room : is_beyond network stream ≡ false
 
 pub may_come_in : (network : DeclaredNetwork) (stream : DeclaredStream) → entry_fault network stream ≡ None
     → MayComeIn network stream
 may_come_in network stream none =
-    by (is_name_taken network stream.name) refl (is_full network.streams stream.ports) refl none
+    by (is_name_taken network stream.name) refl (is_beyond network stream) refl none
   where
     by : (a : Bool) → is_name_taken network stream.name ≡ a
-        → (b : Bool) → is_full network.streams stream.ports ≡ b
+        → (b : Bool) → is_beyond network stream ≡ b
         → cond a (Some NameTaken) (cond b (Some Limit) None) ≡ None → MayComeIn network stream
     by true e b f h = absurd (let no : Some NameTaken ≡ None = h in cc)
     by false e true f h = absurd (let no : Some Limit ≡ None = h in cc)

@@ -5,7 +5,7 @@ use Rattle.ats_num.specs.Failure.{unless}
 use Rattle.ats_streams.specs.Stream.{DeclaredStream, with_class}
 use Rattle.ats_network.specs.Edits.{stream_named}
 use Rattle.ats_network.specs.Network.{DeclaredNetwork}
-use Rattle.ats_network.specs.Pushes.{with_stream, is_full, is_name_taken}
+use Rattle.ats_network.specs.Pushes.{with_stream, is_beyond, is_name_taken}
 use Rattle.ats_certificate.specs.Certificate.{bound_along}
 use Rattle.ats_certificate.specs.Used.{stream_classes}
 use Rattle.ats_tally.specs.declared.reason.Reason.{Reason}
@@ -22,12 +22,12 @@ reason_with network stream = reason_of (with_stream network stream)
 abbrev pub sum_with : DeclaredNetwork → DeclaredStream → ℕ
 sum_with network stream = bound_along (least_certificate (with_stream network stream)) stream
 
--- why a stream is refused before any certificate is asked for, if it is: its name is taken, then there is no room for
--- it
+-- why a stream is refused before any certificate is asked for, if it is: its name is taken, then it is over a
+-- limit
 abbrev pub entry_fault : DeclaredNetwork → DeclaredStream → Option Denied
 entry_fault network stream =
     if is_name_taken network stream.name then Some NameTaken
-    else if is_full network.streams stream.ports then Some Limit
+    else if is_beyond network stream then Some Limit
     else None
 
 -- why a stream is not admitted, if it is not

@@ -10,7 +10,8 @@ pub enum Denied {
     NameTaken,
     /// No stream of the network has the name.
     NameUnknown,
-    /// As many streams are there as a network may have, or the streams would have more ports together.
+    /// As many streams are there as a network may have, or the streams would have more ports together; or, by the
+    /// clocks on the stream's way, a rate or a burst of it is over the limits of a scheduler.
     Limit,
     /// No certificate holds for the network with the stream added last, for this reason.
     Because(Reason),

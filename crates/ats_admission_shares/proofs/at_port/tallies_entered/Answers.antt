@@ -62,9 +62,9 @@ returns c =
     let entry = entering c.args.network.now c.args.stream c.args.hop c.sender_ports.result.now
     (port_sender c.at-sender.result) c.sender_ports.ensures.rules c.requires.stream c.requires.hop
     c.sender_ports.ensures.value c.at-sender.ensures.seen in
-    subst (λ (p : ℕ). AreClassTallies (senders_at p (senders_of network)) c.tallies_of.result) entry.at
-    (c.tallies_of.ensures (senders_at port (senders_of network))
-    (subst (λ (share : Share). AreShares (senders_at port (senders_of network))
+    subst (λ (p : ℕ). AreClassTallies (senders_at network.topology p (senders_of network)) c.tallies_of.result) entry.at
+    (c.tallies_of.ensures (senders_at network.topology port (senders_of network))
+    (subst (λ (share : Share). AreShares (senders_at network.topology port (senders_of network))
     (set c.eight_at-own.result c.at-sender.result.class share)) (sym c.with_sender.ensures)
     (counted_is c.args.network.now c.args.stream port c.args.hop (port_sender c.at-sender.result) c.args.shares.now
     c.eight_at-own.result c.sender_ports.ensures.rules c.requires.stream entry c.requires.shares

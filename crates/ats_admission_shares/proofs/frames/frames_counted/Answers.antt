@@ -16,7 +16,7 @@ pub returns-then-eq : goal.returns-then-eq
 returns-then-eq c =
     let network : DeclaredNetwork = c.args.network.now in
     let class : ℕ = c.args.sender.now.class in
-    let list : List PortSender = senders_at c.args.port (map stream_sender network.streams) in
+    let list : List PortSender = senders_at network.topology c.args.port (map stream_sender network.streams) in
     let s : PortSender = port_sender c.args.sender.now in
     let within : c.loop-place.place < length list = omega (
       arith,
@@ -30,7 +30,7 @@ returns-then-eq c =
     (frames_with (port_sender c.seen_user-user.result) f) f) c.loop-place.invariant
     ∙ frames_more class list c.loop-place.place (port_sender c.seen_user-user.result) within
     c.seen_user-user.ensures.seen in
-    let alone : frames_of class list ≡ frames_of class (senders_at c.args.port (senders_of network)) =
+    let alone : frames_of class list ≡ frames_of class (senders_at network.topology c.args.port (senders_of network)) =
     ap frames_in (streams_alone network c.args.port class c.requires.class) in
     next
     ∙ frames_found class list (c.loop-place.place + 1) s
@@ -44,7 +44,7 @@ pub loop-place-preserved : goal.loop-place-preserved
 loop-place-preserved c =
     let network : DeclaredNetwork = c.args.network.now in
     let class : ℕ = c.args.sender.now.class in
-    let list : List PortSender = senders_at c.args.port (map stream_sender network.streams) in
+    let list : List PortSender = senders_at network.topology c.args.port (map stream_sender network.streams) in
     let within : c.loop-place.place < length list = omega (
       arith,
       c.loop-place-test.true,
@@ -61,7 +61,7 @@ pub returns : goal.returns
 returns c =
     let network : DeclaredNetwork = c.args.network.now in
     let class : ℕ = c.args.sender.now.class in
-    let list : List PortSender = senders_at c.args.port (map stream_sender network.streams) in
+    let list : List PortSender = senders_at network.topology c.args.port (map stream_sender network.streams) in
     let end : length list ≤ c.loop-place.place = omega (
       arith,
       c.loop-place-test.false,

@@ -21,5 +21,5 @@ returns c =
     let network = c.args.network.now in
     shares_entered network (without_at network c.args.stream) (stream_at network c.args.stream)
     (less_by network c.args.stream c.requires.stream) c.args.shares.now c.enter_along.new.shares c.requires.shares
-    (subst (λ (s : Sender). Enters s c.args.shares.now c.enter_along.new.shares)
+    (subst (λ (s : Sender). Enters network.topology s c.args.shares.now c.enter_along.new.shares)
     (stream_is network c.args.stream c.requires.stream) c.enter_along.ensures)
