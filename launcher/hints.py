@@ -2,8 +2,9 @@
 
 Usage: hints.py KIND FILE FAULT NET. KIND is what the file is to the command (NET, CERT, SCHEDULE, REQUESTS, CAPTURE, or
 FILE for a shape file), FAULT what the program prints behind `input FILE`, or of a schedule the line `refused`, NET the
-network file. Prints one line, or nothing where no culprit is found. It reads the files by Python's own readers (of TOML
-from Python 3.11 on), so what it prints is a help for people and nothing that is proved.
+network file. Of a network that the program has accepted FAULT is `clocks` and the command: of which clocks nothing was
+promised is told then. Prints one line, or nothing where no culprit is found. It reads the files by Python's own readers
+(of TOML from Python 3.11 on), so what it prints is a help for people and nothing that is proved.
 
 The tables of keys, ranges and headers are held against docs/FORMATS.md by .ci/launcher."""
 
@@ -34,9 +35,14 @@ BEHIND_ROUTES = [
     "class", "classes", "rate_bps", "burst_bits", "min_octets", "max_octets", "deadline_ns", "address", "vlan",
 ]
 ONE_ROUTE_KEYS = ["name", "path", "from", "to", *BEHIND_ROUTES]
+CLOCK_KEYS = ["clock_ppm", "clock_step_ps"]
 # Those of the tables whose keys go by the format.
 FORMAT_KEYS = {
-    "bridge": {1: ["name", "processing_ns", "residence_ns"], 2: SPREAD_KEYS, 3: SPREAD_KEYS},
+    "bridge": {
+        1: ["name", "processing_ns", "residence_ns"],
+        2: SPREAD_KEYS,
+        3: [*SPREAD_KEYS, *CLOCK_KEYS],
+    },
     "stream": {1: ONE_ROUTE_KEYS, 2: ONE_ROUTE_KEYS, 3: ["name", "path", "paths", "from", "to", *BEHIND_ROUTES]},
 }
 # The least and the greatest that a number may be.
@@ -47,6 +53,8 @@ RANGES = {
     "processing_min_ns": (0, 1000000),
     "processing_max_ns": (0, 1000000),
     "residence_ns": (0, 1000000000),
+    "clock_ppm": (0, 1000),
+    "clock_step_ps": (0, 10000000),
     "class": (1, 7),
     "rate_bps": (1, 100000000000),
     "burst_bits": (1, 1000000000),
@@ -197,6 +205,8 @@ def unknown_key(document, table, number):
             listed = "; its keys are " + ", ".join(keys)
             if table == "top" and key in OF_EACH_PORT:
                 return f"{key} stands in format 3 alone, and format is {shown(document.get('format'))}"
+            if table == "bridge" and key in CLOCK_KEYS:
+                return f"{key} stands in format 3 alone, and format is {shown(document.get('format'))}"
             if any(key in others for others in FORMAT_KEYS.get(table, {}).values()):
                 return f"the key {key} is not one of format {document.get('format')}{listed}"
             if table != "top" and key in KEYS["top"]:
@@ -218,7 +228,7 @@ def missing_format(document):
                 due = "put it before the first table"
                 return f"format stands behind [[{table}]] and so belongs to {table} {number}: {due}"
     due = "the file begins with format = 1, or 2 where bridges have two processing times, or 3 where a stream has"
-    due += " several listeners, bridges send or take frames, or tables stand for each port"
+    due += " several listeners, bridges send or take frames or have clocks, or tables stand for each port"
     empty = "" if document else "nothing is declared, as where what was to write the file did not; "
     others = {key: value for key, value in document.items() if key not in OF_EACH_PORT}
     return unknown_key(others, "top", 0) or empty + due
@@ -558,11 +568,18 @@ RULES = {
     "bad-sizes": f"octets are {range_of('max_octets')}, and the least not above the greatest",
     "limit": f"{RANGES['burst_bits'][1]} bits and {RANGES['deadline_ns'][1]} ns",
 }
+LIMITED = {"burst_bits", "deadline_ns"}
+OVERRATED = (
+    f"by the clocks of bridges its rate comes to over {RANGES['rate_bps'][1]} b/s, or its burst to over"
+    f" {RANGES['burst_bits'][1]} bits"
+)
 
 
 def most_links(document, entry):
     """How many links the longest route of an entry has."""
-    if "path" in entry or "paths" in entry:
+    if not {"path", "paths", "from"} & entry.keys():
+        return 1
+    if "from" not in entry:
         return max(len(path) for path in ways_of(entry)) - 1
     far = distances(entry["from"], links_of(document))
     return max(far[listener] for listener in listeners_of(entry))
@@ -570,12 +587,15 @@ def most_links(document, entry):
 
 def limit_of(document, entry):
     """What the limits of an entry are, and how many links its longest route has, where these are too many."""
-    if not {"path", "paths", "from"} & entry.keys():
-        return f"the most are {RULES['limit']}"
     most, links = MOST_LINKS[document["format"]], most_links(document, entry)
     longest = f"its longest route has {links} links; " if links > most else ""
+    if not longest and not any(breaks_limit(document, entry, key) for key in entry.keys() & LIMITED):
+        return OVERRATED
+    least = f", and a deadline is at least {RANGES['deadline_ns'][0]} ns" if entry.get("deadline_ns") == 0 else ""
+    if not {"path", "paths", "from"} & entry.keys():
+        return f"the most are {RULES['limit']}{least}"
     where = " (64 in format 3)" if longest and links <= MOST_LINKS[3] else ""
-    return f"{longest}the most are {most} links{where}, {RULES['limit']}"
+    return f"{longest}the most are {most} links{where}, {RULES['limit']}{least}"
 
 
 def due_of(document, entry, fault):
@@ -611,6 +631,26 @@ def sender_fault(document, table, number, fault):
     return f"{who_is(document, table, number)}{', with ' + has if has else ''}; {due_of(document, entry, fault)}"
 
 
+def clocks_of(document):
+    """The bridges that declare a clock which is not ideal, by name: the deviation and the step of each."""
+    found = {it["name"]: [it.get(key, 0) for key in CLOCK_KEYS] for it in document.get("bridge", [])}
+    return {name: clock for name, clock in found.items() if any(clock)}
+
+
+def without_promise(document, command):
+    """What of the clocks of an accepted network leaves something without a promise."""
+    clocks = clocks_of(document)
+    if command.startswith("lrq"):
+        told = "the file declares clocks, and of bridges with such clocks nothing was promised: lrq is for true time"
+        return told if clocks else None
+    stepless = [shown(name) for name, (_, step) in clocks.items() if not step]
+    if not stepless:
+        return None
+    names = ", ".join(stepless[:MOST_NAMED])
+    names += f" and {len(stepless) - MOST_NAMED} more" if len(stepless) > MOST_NAMED else ""
+    return f"{names}: clock_ppm without clock_step_ps promises nothing of a clock that deviates: give its step too"
+
+
 def identity(stream):
     return str(stream.get("address")).lower(), stream.get("vlan")
 
@@ -622,6 +662,8 @@ def network_hint(raw, words):
     import tomllib
     document = tomllib.loads(text_of(raw))
     match words:
+        case ["clocks", *command]:
+            return without_promise(document, " ".join(command))
         case ["refused", "overloaded", port, cls, _]:
             return rates_at(document, port, int(cls))
         case ["limit"]:
@@ -728,10 +770,27 @@ def refused_frames(raw, fault, words, net):
     frames = dict.fromkeys(int(word) for word in words)
     told = [f"frame {frame} is record {frame + 2}: {shown(','.join(records[frame + 1]))}" for frame in frames]
     if fault == "bucket":
-        told.append("ats fit says which burst each stream asks for")
+        told.append(due_of_bucket(records[int(words[0]) + 1][1], network_of(net)))
     if fault == "size":
         told.append(f"declared are {sizes_of(records[int(words[0]) + 1][1], network_of(net))}")
     return "; ".join(told)
+
+
+def due_of_bucket(name, document):
+    """What helps where a stream breaks its bucket: by a bridge's clock it may send other frames than are judged."""
+    talker = talker_of(name, document)
+    if talker in clocks_of(document):
+        told = f"{shown(talker)}, where it begins, declares a clock, and the times are judged as true time"
+        return f"{told}: in true time it may send the first word of its line rates, which ats show prints"
+    return "ats fit says which burst each stream asks for"
+
+
+def talker_of(name, document):
+    """The node at which a stream begins."""
+    table = dict(senders_of(document))[name]
+    if not {"path", "paths", "from"} & table.keys():
+        return ports_in(document)[int(name.rsplit("-", 1)[1])].split(">")[0]
+    return ways_of(table)[0][0]
 
 
 def sizes_of(name, document):

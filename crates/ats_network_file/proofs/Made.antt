@@ -1,13 +1,11 @@
 use Rattle.std.proofs.Common.{◌≡◌, ℕ, Bool, true, false, not, cond, List, [], ◌++◌, Option, Some, None, Result, Ok, Err}
-use Rattle.std.proofs.Common.{IsErrAnd, sym, ap, subst, ◌∙◌}
+use Rattle.std.proofs.Common.{IsErrAnd, refl, sym, ap, subst, ◌∙◌}
 use Rattle.std.specs.Option.{option_or}
-use Rattle.std.specs.List.{list_any}
 use Rattle.ats_num.specs.Failure.{◌>>=◌, unless, Fails, Gives}
 use Rattle.ats_num.specs.declared.failure.Failure.{Failure}
 use Rattle.ats_num.specs.declared.failure.Failure.TheVariants.{Fault, NoMemory}
 use Rattle.ats_topology.specs.Topology.{DeclaredTopology}
-use Rattle.ats_streams.specs.Branches.{is_bad_route, routes_of}
-use Rattle.ats_streams.specs.Stream.{DeclaredStream, route_fault}
+use Rattle.ats_streams.specs.Stream.{DeclaredStream}
 use Rattle.ats_streams.specs.declared.fault.StreamFault.{StreamFault}
 use Rattle.ats_streams.specs.declared.fault.StreamFault.TheVariants.{Limit}
 use Rattle.ats_network.specs.Network.{DeclaredNetwork, network_within}
@@ -33,37 +31,36 @@ fails_still wrap first behind x NoMemory fails = tt
 fails_still wrap (Some f) behind x (Fault fault) fails = fails
 fails_still wrap None behind x (Fault fault) fails = cc
 
--- a stream that breaks no rule of each stream, and whose routes may be so long
-pub short_made : (wrap : StreamFault → NetFault) (first : Option StreamFault) (most : ℕ) (stream made : DeclaredStream)
-    → unless wrap first stream ≡ Ok made
-    → true ≡ not (list_any (is_bad_route most) (routes_of made.ports made.branches))
-    → unless wrap (option_or first (route_fault most (routes_of stream.ports stream.branches))) stream ≡ Ok made
-short_made wrap (Some f) most stream made is short = cc
-short_made wrap None most stream made is short =
+-- a stream that breaks no rule before, and does not break this one
+pub kept_made : (wrap : StreamFault → NetFault) (first : Option StreamFault) (bad : DeclaredStream → Bool)
+    (stream made : DeclaredStream) → unless wrap first stream ≡ Ok made → false ≡ bad made
+    → unless wrap (option_or first (cond (bad stream) (Some Limit) None)) stream ≡ Ok made
+kept_made wrap (Some f) bad stream made is good = cc
+kept_made wrap None bad stream made is good =
     let same : made ≡ stream = cc in
-    by (list_any (is_bad_route most) (routes_of stream.ports stream.branches))
-    (subst (λ (s : DeclaredStream). true ≡ not (list_any (is_bad_route most) (routes_of s.ports s.branches))) same
-    short)
+    by (bad stream) (subst (λ (s : DeclaredStream). false ≡ bad s) same good)
   where
-    by : (b : Bool) → true ≡ not b → unless wrap (cond b (Some Limit) None) stream ≡ Ok made
+    by : (b : Bool) → false ≡ b → unless wrap (cond b (Some Limit) None) stream ≡ Ok made
     by true e = cc
     by false e = is
 
--- or whose routes may not
-pub long_made : (wrap : StreamFault → NetFault) (first : Option StreamFault) (most : ℕ) (stream made : DeclaredStream)
-    (fault : NetFault) → unless wrap first stream ≡ Ok made
-    → false ≡ not (list_any (is_bad_route most) (routes_of made.ports made.branches)) → fault ≡ wrap Limit
-    → unless wrap (option_or first (route_fault most (routes_of stream.ports stream.branches))) stream ≡ Err fault
-long_made wrap (Some f) most stream made fault is short fault_is = cc
-long_made wrap None most stream made fault is short fault_is =
+-- or breaks it
+pub broken_made : (wrap : StreamFault → NetFault) (first : Option StreamFault) (bad : DeclaredStream → Bool)
+    (stream made : DeclaredStream) (fault : NetFault) → unless wrap first stream ≡ Ok made → true ≡ bad made
+    → fault ≡ wrap Limit → unless wrap (option_or first (cond (bad stream) (Some Limit) None)) stream ≡ Err fault
+broken_made wrap (Some f) bad stream made fault is breaks fault_is = cc
+broken_made wrap None bad stream made fault is breaks fault_is =
     let same : made ≡ stream = cc in
-    by (list_any (is_bad_route most) (routes_of stream.ports stream.branches))
-    (subst (λ (s : DeclaredStream). false ≡ not (list_any (is_bad_route most) (routes_of s.ports s.branches))) same
-    short)
+    by (bad stream) (subst (λ (s : DeclaredStream). true ≡ bad s) same breaks)
   where
-    by : (b : Bool) → false ≡ not b → unless wrap (cond b (Some Limit) None) stream ≡ Err fault
+    by : (b : Bool) → true ≡ b → unless wrap (cond b (Some Limit) None) stream ≡ Err fault
     by true e = cc
     by false e = cc
+
+-- a test that fails where its contrary passes
+pub not_so : (b c : Bool) → c ≡ not b → not c ≡ b
+not_so true c h = rw h refl
+not_so false c h = rw h refl
 
 -- what senders make of a network, as a file of a format declares them
 abbrev made_of : Format → DeclaredNetwork → List (Place × file.DeclaredStream) → List (Place × file.DeclaredFlow)

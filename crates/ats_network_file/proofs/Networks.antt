@@ -18,13 +18,14 @@ use Rattle.ats_network.specs.Sender.{Sender}
 use Rattle.ats_network.specs.Path.{IsTree, IsValidPath}
 use Rattle.ats_network.specs.Network.{DeclaredNetwork, HasOneListener, HasShortPath, HasShortRoutes, IsMostPorts}
 use Rattle.ats_network.specs.Network.{IsNetwork, names_of, network_within, senders_of}
-use Rattle.ats_network.specs.Pushes.{with_stream, with_flow, is_full, is_name_taken, is_identity_taken}
+use Rattle.ats_network.specs.Pushes.{with_stream, with_flow, is_beyond, is_name_taken, is_identity_taken}
+use Rattle.ats_network.specs.Rates.{HasRates}
 use Rattle.ats_network.specs.Pushes.{stream_push_fault, flow_push_fault}
 use Rattle.ats_network.specs.declared.network.TheConstants.{MAX_FLOWS}
 use Rattle.ats_network.proofs.Pushed.{pushed_stream, pushed_flow}
 use Rattle.ats_route_tree.specs.Legs.{DeclaredLegs}
 use Rattle.ats_route_tree.proofs.Found.{have_valid}
-use Rattle.ats_facts.proofs.Options.{is_some-false}
+use Rattle.ats_facts.proofs.Options.{is_some-false, option_or-none}
 use Rattle.ats_network_table.specs.Walk.{IsIdentity}
 use Rattle.ats_network_table.specs.declared.format.Format.{Format}
 use Rattle.ats_network_table.specs.declared.fault.DocumentFault.{DocumentFault}
@@ -38,6 +39,7 @@ use Rattle.ats_network_file.specs.Reading.{IsBeforeFormat3, most_ports_of}
 use Rattle.ats_network_file.specs.Senders.{legs_in, path_in, stream_over, flow_over, stream_made, flow_made, refusal_of}
 use Rattle.ats_network_file.specs.LinkLocal.{stream_at, streams_at}
 use Rattle.ats_network_file.specs.Senders.{stream_added, flow_added, all_added, alone, flows_in, placed, streams_in}
+use Rattle.ats_network_file.specs.Senders.{rate_fault, stream_fault_over}
 use Rattle.ats_network_file.specs.declared.senders.SenderTable.TheVariants.{Stream, LinkLocal}
 use Rattle.ats_network_file.specs.Routes.{is_valid, may_declare, ports_of}
 use Rattle.ats_network_file.specs.Stations.{JoinStations, JoinsStations}
@@ -122,7 +124,7 @@ stream_push_kept : (before : Type 0) (most : ℕ) (network : DeclaredNetwork) (s
 stream_push_kept before most network stream next is keeps alone joins tree short sound =
     let a = passed (is_name_taken network stream.name) _ _ sound.none in
     let b = passed (is_identity_taken network.streams stream.identity) _ _ a.none in
-    let c = passed (is_full network.streams stream.ports) _ _ b.none in
+    let c = passed (is_beyond network stream) _ _ b.none in
     let made : IsAlone before most (with_stream network stream) = record {
       is = pushed_stream network stream is.is keeps tree short (name_free network stream.name a.test) b.test c.test;
       alone = λ b. All-push (λ (s : DeclaredStream). s.branches ≡ []) network.streams stream (is.alone b) (alone b);
@@ -139,14 +141,17 @@ stream_add_kept : (before : Type 0) (most : ℕ) (f : Format) (network : Declare
     → IsAlone before most network → stream_added f network n e ≡ Ok next → IsAlone before most next
 stream_add_kept before most f network n e next other entry is h =
     let routed = both (legs_in f network.topology n e.routes)
-    (λ legs. stream_made network.most_ports n e (stream_over legs e)
+    (λ legs. stream_made network.topology network.most_ports n e (stream_over legs e)
     >>= λ s. unless (refusal_of n) (stream_push_fault network s) (with_stream network s)) next h in
     let stream : DeclaredStream = stream_over routed.first e in
-    let made = both (stream_made network.most_ports n e stream)
+    let made = both (stream_made network.topology network.most_ports n e stream)
     (λ s. unless (refusal_of n) (stream_push_fault network s) (with_stream network s)) next routed.then in
-    let sound : Sound (stream_fault_within network.most_ports e.classes stream) stream made.first =
-    unless_ok (net.Sender n.table n.number) (stream_fault_within network.most_ports e.classes stream) stream
-    made.first made.is in
+    let sound : Sound (stream_fault_over network.topology network.most_ports e.classes stream) stream made.first =
+    unless_ok (net.Sender n.table n.number) (stream_fault_over network.topology network.most_ports e.classes stream)
+    stream made.first made.is in
+    let ruled : stream_fault_within network.most_ports e.classes stream ≡ None =
+    (option_or-none (stream_fault_within network.most_ports e.classes stream) (rate_fault network.topology stream)
+    sound.none).0 in
     let added : (s : DeclaredStream) → s ≡ made.first
     → Sound (stream_push_fault network s) (with_stream network s) next =
     λ s same. unless_ok (refusal_of n) (stream_push_fault network s) (with_stream network s) next
@@ -163,11 +168,11 @@ stream_add_kept before most f network n e next other entry is h =
     legs_declared f network.topology n e.routes routed.first routed.is in
     stream_push_kept before most network stream next is
     (stream_keeps e.classes stream refl found.have.are may
-    (stream_faultless network.most_ports e.classes stream sound.none))
+    (stream_faultless network.most_ports e.classes stream ruled))
     (λ b. one_leg network.topology e.routes routed.first found (entry.single b))
     (λ b. declared_join f network.topology (routes_of routed.first.ports routed.first.branches) (other b)
     is.is.topology valid declared.may) found.have.tree
-    (stream_short network.most_ports e.classes stream sound.none) (added stream sound.same)
+    (stream_short network.most_ports e.classes stream ruled) (added stream sound.same)
 
 flow_push_kept : (before : Type 0) (most : ℕ) (network : DeclaredNetwork) (flow : DeclaredFlow)
     (next : DeclaredNetwork) → IsAlone before most network → IsFlow flow → IsValidPath network.topology flow.path
@@ -246,6 +251,7 @@ bare topology most is of = record {
   most_ports = of;
   short_streams = All-nil (HasShortRoutes most);
   short_flows = All-nil (HasShortPath most);
+  rates = All-nil (HasRates topology);
 }
 
 -- a format gives one of the two numbers

@@ -29,7 +29,10 @@ abbrev pub station_of : StationEntry → Node
 station_of s = record { name = s.name; kind = Station }
 
 abbrev pub bridge_of : BridgeEntry → Node
-bridge_of b = record { name = b.name; kind = Bridge b.processing_min_ns b.processing_max_ns b.residence_ns }
+bridge_of b = record {
+  name = b.name;
+  kind = Bridge b.processing_min_ns b.processing_max_ns b.residence_ns b.clock_ppm b.clock_step_ps;
+}
 
 abbrev pub link_of : LinkEntry → Link
 link_of l = record { a = l.a; b = l.b; mbps = l.mbps; propagation_ns = l.propagation_ns }

@@ -1,9 +1,15 @@
-use Rattle.std.specs.Prelude.{ℕ, ◌+◌, List, [], ◌∷◌, ◌++◌, length, map, Result, Ok}
+use Rattle.std.specs.Prelude.{ℕ, ◌+◌, if◌then◌else◌, List, [], ◌∷◌, ◌++◌, length, map, Option, Some, None}
+use Rattle.std.specs.Prelude.{Result, Ok}
+use Rattle.std.specs.Option.{option_or}
 use Rattle.ats_topology.specs.Topology.{DeclaredTopology}
 use Rattle.ats_streams.specs.Branches.{routes_of}
 use Rattle.ats_streams.specs.Stream.{DeclaredStream, branching_stream, classes_for, stream_fault_within}
 use Rattle.ats_streams.specs.Flow.{DeclaredFlow, declared_flow, flow_fault_within}
+use Rattle.ats_streams.specs.declared.fault.StreamFault.{StreamFault}
+use Rattle.ats_streams.specs.declared.fault.StreamFault.TheVariants as rule
 use Rattle.ats_network.specs.Network.{DeclaredNetwork}
+use Rattle.ats_network.specs.Rates.{is_overrated}
+use Rattle.ats_network.specs.Sender.{stream_sender}
 use Rattle.ats_route_tree.specs.Legs.{DeclaredLegs}
 use Rattle.ats_network.specs.Pushes.{with_stream, with_flow, stream_push_fault, flow_push_fault}
 use Rattle.ats_network.specs.declared.fault.PushFault.{PushFault}
@@ -75,10 +81,21 @@ stream_over legs e =
 abbrev pub flow_over : List ℕ → file.DeclaredFlow → DeclaredFlow
 flow_over path e = declared_flow e.name path e.max_octets
 
--- the stream of an entry or a flow, or the first rule that it breaks, where a route may have so many ports
-abbrev pub stream_made : ℕ → Place → file.DeclaredStream → DeclaredStream → Result DeclaredStream NetFault
-stream_made most place e stream =
-    unless (Sender place.table place.number) (stream_fault_within most e.classes stream) stream
+-- the limit on rates and bursts: by the clocks on its way, one of a stream is over the limits of a scheduler
+abbrev pub rate_fault : DeclaredTopology → DeclaredStream → Option StreamFault
+rate_fault topology stream = if is_overrated topology (stream_sender stream) then Some rule.Limit else None
+
+-- the first rule that a stream over a topology breaks, where a route may have so many ports: the rules of each stream,
+-- then this limit
+abbrev pub stream_fault_over : DeclaredTopology → ℕ → List ℕ → DeclaredStream → Option StreamFault
+stream_fault_over topology most given stream =
+    option_or (stream_fault_within most given stream) (rate_fault topology stream)
+
+-- the stream of an entry or a flow, or the first rule that it breaks
+abbrev pub stream_made : DeclaredTopology → ℕ → Place → file.DeclaredStream → DeclaredStream
+    → Result DeclaredStream NetFault
+stream_made topology most place e stream =
+    unless (Sender place.table place.number) (stream_fault_over topology most e.classes stream) stream
 
 abbrev pub flow_made : ℕ → Place → DeclaredFlow → Result DeclaredFlow NetFault
 flow_made most place flow = unless (Sender place.table place.number) (flow_fault_within most flow) flow
@@ -94,7 +111,7 @@ refusal_of place Limit = Form (form.Limit (table_of place.table))
 abbrev pub stream_added : Format → DeclaredNetwork → Place → file.DeclaredStream → Result DeclaredNetwork NetFault
 stream_added format network place e = do
   legs ← legs_in format network.topology place e.routes
-  stream ← stream_made network.most_ports place e (stream_over legs e)
+  stream ← stream_made network.topology network.most_ports place e (stream_over legs e)
   unless (refusal_of place) (stream_push_fault network stream) (with_stream network stream)
 
 -- the network with the flow of an entry

@@ -29,7 +29,8 @@ pub enum NetFault {
         /// The number of the entry.
         entry: u32,
     },
-    /// A stream or flow breaks a rule.
+    /// A stream or flow breaks a rule. The last one of a stream is that no rate and no burst of it is, by the clocks
+    /// on its way, over the limits of a scheduler.
     Sender {
         /// Whether it is declared as a stream or a flow, or for each port.
         table: SenderTable,

@@ -60,6 +60,8 @@ fn bridge_of(bridge: &BridgeEntry) -> Node
             processing_min_ns: bridge.processing_min_ns,
             processing_max_ns: bridge.processing_max_ns,
             residence_ns: bridge.residence_ns,
+            clock_ppm: bridge.clock_ppm,
+            clock_step_ps: bridge.clock_step_ps,
         },
     }
 }

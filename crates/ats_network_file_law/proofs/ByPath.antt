@@ -50,7 +50,7 @@ legs_same format topology n route other same =
 -- what becomes of the legs of an entry
 abbrev over : DeclaredNetwork → Place → file.DeclaredStream → DeclaredLegs → Result DeclaredNetwork NetFault
 over s n e legs =
-    stream_made s.most_ports n e (stream_over legs e)
+    stream_made s.topology s.most_ports n e (stream_over legs e)
     >>= λ stream. unless (refusal_of n) (stream_push_fault s stream) (with_stream s stream)
 
 -- the ports of a route are those of its path

@@ -9,7 +9,7 @@ use Rattle.std.proofs.lemmas.List.Elements.{All-head, All-tail}
 use Rattle.ats_num.specs.Failure.{◌>>=◌, ok_where, or_fault, unless}
 use Rattle.ats_topology.specs.Faults.{topology_fault}
 use Rattle.ats_topology.specs.Topology.{DeclaredTopology, topology_of}
-use Rattle.ats_streams.specs.Stream.{DeclaredStream, stream_fault_within}
+use Rattle.ats_streams.specs.Stream.{DeclaredStream}
 use Rattle.ats_streams.specs.Flow.{DeclaredFlow, flow_fault_within}
 use Rattle.ats_network.specs.Network.{DeclaredNetwork, network_within}
 use Rattle.ats_network.specs.Path.{IsValidPath}
@@ -25,7 +25,7 @@ use Rattle.ats_network_file.specs.Reading.{topology_in}
 use Rattle.ats_network_file.specs.Routes.{is_valid, may_declare, ports_of}
 use Rattle.ats_network_file.specs.Senders.{all_added, flow_added, flow_made, flow_over, legs_in, path_in, refusal_of}
 use Rattle.ats_network_file.specs.Senders.{alone, at_place, flows_in, placed, stream_added, stream_made, stream_over}
-use Rattle.ats_network_file.specs.Senders.{streams_in}
+use Rattle.ats_network_file.specs.Senders.{stream_fault_over, streams_in}
 use Rattle.ats_network_file.specs.LinkLocal.{flows_at, streams_at}
 use Rattle.ats_network_file.specs.declared.senders.Place.{Place}
 use Rattle.ats_network_file.specs.declared.senders.SenderTable.{SenderTable}
@@ -91,14 +91,14 @@ pub stream_stands : (format : Format) (network : DeclaredNetwork) (n : Place) (e
     (next : DeclaredNetwork) → stream_added format network n e ≡ Ok next → AddsStream format n network next e
 stream_stands format network n e next h =
     let read = both (legs_in format network.topology n e.routes)
-    (λ legs. stream_made network.most_ports n e (stream_over legs e)
+    (λ legs. stream_made network.topology network.most_ports n e (stream_over legs e)
     >>= λ s. unless (refusal_of n) (stream_push_fault network s) (with_stream network s)) next h in
     let stream : DeclaredStream = stream_over read.first e in
-    let made = both (stream_made network.most_ports n e stream)
+    let made = both (stream_made network.topology network.most_ports n e stream)
     (λ s. unless (refusal_of n) (stream_push_fault network s) (with_stream network s)) next read.then in
-    let sound : Sound (stream_fault_within network.most_ports e.classes stream) stream made.first =
-    unless_ok (net.Sender n.table n.number) (stream_fault_within network.most_ports e.classes stream) stream
-    made.first made.is in
+    let sound : Sound (stream_fault_over network.topology network.most_ports e.classes stream) stream made.first =
+    unless_ok (net.Sender n.table n.number) (stream_fault_over network.topology network.most_ports e.classes stream)
+    stream made.first made.is in
     let pushed : Sound (stream_push_fault network made.first) (with_stream network made.first) next =
     unless_ok (refusal_of n) (stream_push_fault network made.first) (with_stream network made.first) next
     made.then in

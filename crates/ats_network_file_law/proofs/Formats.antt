@@ -6,17 +6,17 @@ use Rattle.std.specs.List.{All}
 use Rattle.std.specs.Option.{option_map, option_or}
 use Rattle.std.specs.Str.{bytes_eq}
 use Rattle.std.proofs.lemmas.Bool.{true≢false}
-use Rattle.std.proofs.lemmas.List.Elements.{All-cons, All-head, All-nil, All-tail}
+use Rattle.std.proofs.lemmas.List.Elements.{All-cons, All-head, All-nil, All-tail, All-weaker}
 use Rattle.std.proofs.lemmas.Option.{none-some}
 use Rattle.toml.specs.Data.{Data, Items, Members, as_array, get_member, integer, member, no_members}
 use Rattle.ats_facts.proofs.Bytes.{bytes_eq-true}
 use Rattle.ats_num.specs.Failure.{◌>>=◌, ok_where, or_fault}
 use Rattle.ats_network_table.specs.Kinds.{all_in, name_in, one_or_more, some_where, whole_in}
 use Rattle.ats_network_table.specs.Walk.{Entry, classes_at, format_at, format_of, formed, has, has_paths}
-use Rattle.ats_network_table.specs.Walk.{has_unknown}
+use Rattle.ats_network_table.specs.Walk.{clock_at, has_unknown, short_at}
 use Rattle.ats_network_table.specs.Walk.{identity_at, is_known, is_missing, listeners_at, missing_key, name_at}
 use Rattle.ats_network_table.specs.Walk.{none_missing, path_at, paths_at}
-use Rattle.ats_network_table.specs.Words.{key_text, keys_behind_routes, keys_of, top_keys}
+use Rattle.ats_network_table.specs.Words.{bridge_keys, key_text, keys_behind_routes, keys_of, top_keys}
 use Rattle.ats_network_table.specs.declared.format.Format.{Format}
 use Rattle.ats_network_table.specs.declared.format.Format.TheVariants.{Three, Two}
 use Rattle.ats_network_table.specs.declared.key.Key.{Key}
@@ -31,10 +31,11 @@ use Rattle.ats_network_table.proofs.Places.{get_first}
 use Rattle.ats_network_toml.specs.Document as file
 use Rattle.ats_network_toml.specs.Entries.{bridge_in, flow_in, link_in, link_local_flow_in, link_local_in, numbers_in}
 use Rattle.ats_network_toml.specs.Entries.{routes_at, station_in, stream_in}
+use Rattle.ats_network_toml.specs.declared.entries.BridgeEntry.{BridgeEntry}
 use Rattle.ats_network_toml.specs.Reading.{arrays_in, arrays_read, document_in, entries_from, entries_in}
 use Rattle.ats_network_toml.specs.Reading.{entries_within, senders_for, tables_at, tables_in}
 use Rattle.ats_network_file_law.specs.FormFaults.{tables_told, top_of}
-use Rattle.ats_network_file_law.specs.Formats.{FormatThreeIsFormatTwo, SaysNothingNew, with_format}
+use Rattle.ats_network_file_law.specs.Formats.{FormatThreeIsFormatTwo, SaysNoClock, SaysNothingNew, with_format}
 use Rattle.ats_network_file_law.proofs.FormReaders.{entry_of}
 
 -- The top tables.
@@ -298,6 +299,68 @@ streams_same (ms ∷ tables) new =
     All-cons (AreSame stream_in Stream) ms tables (stream_same ms (All-head SaysNothingNew ms tables new))
     (streams_same tables (All-tail SaysNothingNew ms tables new))
 
+-- A bridge's table.
+
+-- no key is unknown for want of a clock's
+bridge_unknown : (ms : Members) → SaysNoClock ms → has_unknown (bridge_keys Three) ms ≡ has_unknown (bridge_keys Two) ms
+bridge_unknown no_members none = refl
+bridge_unknown (member text d ms) none =
+    let a = other_text (key_text key.ClockPpm) text d ms none.deviation in
+    let b = other_text (key_text key.ClockStepPs) text d ms none.step in
+    ap (λ (p : Bool). not (known p (bytes_eq text (key_text key.ClockStepPs))) || has_unknown (bridge_keys Three) ms)
+    (flipped (key_text key.ClockPpm) text a.0)
+    ∙ ap (λ (q : Bool). not (known false q) || has_unknown (bridge_keys Three) ms)
+    (flipped (key_text key.ClockStepPs) text b.0)
+    ∙ ap (λ (u : Bool). not (known false false) || u)
+    (bridge_unknown ms (record { deviation = a.1; step = b.1 }))
+  where
+    known : Bool → Bool → Bool
+    known p q =
+        bytes_eq text (key_text key.Name) || (bytes_eq text (key_text key.ProcessingMinNs)
+        || (bytes_eq text (key_text key.ProcessingMaxNs) || (bytes_eq text (key_text key.ResidenceNs)
+        || (p || (q || false)))))
+
+bridge_formed : (n : ℕ) (ms : Members) → SaysNoClock ms
+    → formed (entry_of Three Bridge n ms) ≡ formed (entry_of Two Bridge n ms)
+bridge_formed n ms none =
+    let two : Entry = entry_of Two Bridge n ms in
+    ap (λ (b : Bool). none_missing two (missing_key two)
+    >>= λ complete. ok_where (not b) (Unknown Bridge n) complete) (bridge_unknown ms none)
+
+-- a clock's number that does not stand there is 0
+no_clock : (n : ℕ) (ms : Members) (k : Key) → get_member (key_text k) ms ≡ None
+    → clock_at (entry_of Three Bridge n ms) k ≡ Ok 0
+no_clock n ms k none =
+    ap (λ (o : Option Data). cond (is_some o) (short_at (entry_of Three Bridge n ms) k) (Ok 0)) none
+
+-- what is read with three steps that are the same
+bridge_parts : {F : Type 0} (f g : Result (Unit {0}) F) (name : Result (List ℕ) F) (least most residence : Result ℕ F)
+    (ppm step : Result ℕ F) (last : List ℕ → ℕ → ℕ → ℕ → ℕ → ℕ → Result BridgeEntry F) → f ≡ g → ppm ≡ Ok 0
+    → step ≡ Ok 0
+    → (f >>= λ u. name >>= λ n. least >>= λ a. most >>= λ b. residence >>= λ c. ppm >>= λ p. step
+    >>= λ s. last n a b c p s)
+    ≡ (g >>= λ u. name >>= λ n. least >>= λ a. most >>= λ b. residence >>= λ c. last n a b c 0 0)
+bridge_parts {F} f g name least most residence ppm step last e h k = rw (e, h, k) refl
+
+bridge_same : (ms : Members) → SaysNoClock ms → AreSame bridge_in Bridge ms
+bridge_same ms none n =
+    let two : Entry = entry_of Two Bridge n ms in
+    let three : Entry = entry_of Three Bridge n ms in
+    bridge_parts (formed three) (formed two) (name_at two key.Name) (short_at two key.ProcessingMinNs)
+    (short_at two key.ProcessingMaxNs) (short_at two key.ResidenceNs) (clock_at three key.ClockPpm)
+    (clock_at three key.ClockStepPs) (λ name least most residence ppm step. Ok (record {
+      name = name;
+      processing_min_ns = least;
+      processing_max_ns = most;
+      residence_ns = residence;
+      clock_ppm = ppm;
+      clock_step_ps = step;
+    })) (bridge_formed n ms none) (no_clock n ms key.ClockPpm none.deviation)
+    (no_clock n ms key.ClockStepPs none.step)
+
+bridges_same : (tables : List Members) → All SaysNoClock tables → All (AreSame bridge_in Bridge) tables
+bridges_same tables none = All-weaker SaysNoClock (AreSame bridge_in Bridge) bridge_same tables none
+
 -- The arrays one after another.
 
 abbrev as_three : file.DeclaredDocument → Result file.DeclaredDocument DocumentFault
@@ -326,17 +389,17 @@ arrays_with f stations bridges links streams flows = arrays_read (record {
   link_local_flows = [];
 })
 
-arrays_same : (stations bridges links streams flows : List Members) → All SaysNothingNew streams
+arrays_same : (stations bridges links streams flows : List Members) → All SaysNoClock bridges
+    → All SaysNothingNew streams
     → arrays_with Three stations bridges links streams flows
     ≡ (arrays_with Two stations bridges links streams flows >>= as_three)
-arrays_same stations bridges links streams flows new =
+arrays_same stations bridges links streams flows none new =
     both_same (entries_in station_in Three Station 1024 stations) (entries_in station_in Two Station 1024 stations) _ _
     (array_same station_in Station 1024 stations
     (all_same (AreSame station_in Station) (λ ms n. refl) stations))
     (λ a. both_same (entries_in bridge_in Three Bridge (1024 - length a) bridges)
     (entries_in bridge_in Two Bridge (1024 - length a) bridges) _ _
-    (array_same bridge_in Bridge (1024 - length a) bridges
-    (all_same (AreSame bridge_in Bridge) (λ ms n. refl) bridges))
+    (array_same bridge_in Bridge (1024 - length a) bridges (bridges_same bridges none))
     (λ b. both_same (entries_in link_in Three Link 2048 links) (entries_in link_in Two Link 2048 links) _ _
     (array_same link_in Link 2048 links (all_same (AreSame link_in Link) (λ ms n. refl) links))
     (λ c. both_same (entries_in stream_in Three Stream 4096 streams)
@@ -377,38 +440,40 @@ tables_alike w x f g a0 a1 b0 b1 c0 c1 d0 d1 p0 p1 e0 e1 q0 q1 h0 h1 h2 h3 h4 h5
     rw (h0, h1, h2, h3, h4, h5, h6, h7, h8) refl
 
 formats_same : (well : Result (Unit {0}) DocumentFault) (stations bridges links streams flows : Tables)
+    → ((tables : List Members) → bridges ≡ Ok tables → All SaysNoClock tables)
     → ((tables : List Members) → streams ≡ Ok tables → All SaysNothingNew tables)
     → by_parts well (Ok Three) stations bridges links streams (Ok []) flows (Ok [])
     ≡ (by_parts well (Ok Two) stations bridges links streams (Ok []) flows (Ok []) >>= as_three)
-formats_same (Err e) stations bridges links streams flows new = refl
-formats_same (Ok u) (Err e) bridges links streams flows new = refl
-formats_same (Ok u) (Ok a) (Err e) links streams flows new = refl
-formats_same (Ok u) (Ok a) (Ok b) (Err e) streams flows new = refl
-formats_same (Ok u) (Ok a) (Ok b) (Ok c) (Err e) flows new = refl
-formats_same (Ok u) (Ok a) (Ok b) (Ok c) (Ok d) (Err e) new = refl
-formats_same (Ok u) (Ok a) (Ok b) (Ok c) (Ok d) (Ok e) new = arrays_same a b c d e (new d refl)
+formats_same (Err e) stations bridges links streams flows none new = refl
+formats_same (Ok u) (Err e) bridges links streams flows none new = refl
+formats_same (Ok u) (Ok a) (Err e) links streams flows none new = refl
+formats_same (Ok u) (Ok a) (Ok b) (Err e) streams flows none new = refl
+formats_same (Ok u) (Ok a) (Ok b) (Ok c) (Err e) flows none new = refl
+formats_same (Ok u) (Ok a) (Ok b) (Ok c) (Ok d) (Err e) none new = refl
+formats_same (Ok u) (Ok a) (Ok b) (Ok c) (Ok d) (Ok e) none new = arrays_same a b c d e (none b refl) (new d refl)
 
--- the streams that are read are those that are told
-told_new : (tree : Members) → All SaysNothingNew (tables_told (top_of tree) key.Stream) → (tables : List Members)
-    → tables_at (top_in Three tree) key.Stream ≡ Ok tables → All SaysNothingNew tables
-told_new tree new tables read = by (get_member (key_text key.Stream) tree) new read
+-- the tables of an array that are read are those that are told
+told_new : (P : Members → Type 0) (tree : Members) (k : Key) → All P (tables_told (top_of tree) k)
+    → (tables : List Members) → tables_at (top_in Three tree) k ≡ Ok tables → All P tables
+told_new P tree k new tables read = by (get_member (key_text k) tree) new read
   where
-    found : (o : Option (List Members)) → All SaysNothingNew (unwrap_or o [])
-        → or_fault (WrongKind Top 0 key.Stream) o ≡ Ok tables → All SaysNothingNew tables
+    found : (o : Option (List Members)) → All P (unwrap_or o [])
+        → or_fault (WrongKind Top 0 k) o ≡ Ok tables → All P tables
     found None all h = cc h
-    found (Some xs) all h = let same : xs ≡ tables = cc h in subst (All SaysNothingNew) same all
+    found (Some xs) all h = let same : xs ≡ tables = cc h in subst (All P) same all
 
-    by : (o : Option Data) → All SaysNothingNew (unwrap_or (option_and_then tables_in o) [])
-        → (let r : Tables = cond (is_some o) (or_fault (WrongKind Top 0 key.Stream) (option_and_then tables_in o))
-        (Ok []) in r) ≡ Ok tables → All SaysNothingNew tables
-    by None all h = let same : [] ≡ tables = cc h in subst (All SaysNothingNew) same (All-nil SaysNothingNew)
+    by : (o : Option Data) → All P (unwrap_or (option_and_then tables_in o) [])
+        → (let r : Tables = cond (is_some o) (or_fault (WrongKind Top 0 k) (option_and_then tables_in o))
+        (Ok []) in r) ≡ Ok tables → All P tables
+    by None all h = let same : [] ≡ tables = cc h in subst (All P) same (All-nil P)
     by (Some d) all h = found (tables_in d) all h
 
 document_same : (tree : Members) → get_member (key_text key.Format) tree ≡ Some (integer (pos 3))
-    → All SaysNothingNew (tables_told (top_of tree) key.Stream) → get_member (key_text key.LinkLocal) tree ≡ None
+    → All SaysNothingNew (tables_told (top_of tree) key.Stream)
+    → All SaysNoClock (tables_told (top_of tree) key.Bridge) → get_member (key_text key.LinkLocal) tree ≡ None
     → get_member (key_text key.LinkLocalFlow) tree ≡ None
     → document_in tree ≡ (document_in (with_format 2 tree) >>= as_three)
-document_same tree format new no_locals no_local_flows =
+document_same tree format new none no_locals no_local_flows =
     let three : Entry = top_in Three tree in
     let two : Entry = top_in Two (with_format 2 tree) in
     let is : IsTop tree = is_top tree format in
@@ -450,11 +515,12 @@ document_same tree format new no_locals no_local_flows =
     stations bridges links streams locals_two flows local_flows_two in
     there
     ∙ formats_same (formed three) (tables_at three key.Station) (tables_at three key.Bridge) (tables_at three key.Link)
-    (tables_at three key.Stream) (tables_at three key.Flow) (told_new tree new)
+    (tables_at three key.Stream) (tables_at three key.Flow)
+    (told_new SaysNoClock tree key.Bridge none) (told_new SaysNothingNew tree key.Stream new)
     ∙ sym (ap (λ (r : Result file.DeclaredDocument DocumentFault). r >>= as_three) here)
 
 pub format_three_is_format_two : FormatThreeIsFormatTwo
 format_three_is_format_two three two m =
     ap (λ (o : Option Members). or_fault NotToml o >>= document_in) m.in_three
-    ∙ document_same m.tree m.format m.nothing_new m.no_streams_for_ports m.no_flows_for_ports
+    ∙ document_same m.tree m.format m.nothing_new m.no_clocks m.no_streams_for_ports m.no_flows_for_ports
     ∙ sym (ap (λ (o : Option Members). (or_fault NotToml o >>= document_in) >>= as_three) m.in_two)

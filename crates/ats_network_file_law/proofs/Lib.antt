@@ -8,6 +8,7 @@ pub mod SenderSteps
 pub mod SenderWalks
 pub mod SenderEntries
 pub mod FirstSenders
+pub mod LimitsMeant
 pub mod Told
 pub mod FormFirsts
 pub mod FormKeys

@@ -16,7 +16,6 @@ use Rattle.ats_topology.proofs.Rules.{ports_are_lawful, topology_rules}
 use Rattle.ats_topology.specs.declared.fault.TopologyFault.{TopologyFault}
 use Rattle.ats_streams.specs.Branches.{routes_of}
 use Rattle.ats_streams.specs.Flow.{flow_fault_within}
-use Rattle.ats_streams.specs.Stream.{stream_fault_within}
 use Rattle.ats_streams.specs.declared.fault.StreamFault.{StreamFault}
 use Rattle.ats_network.specs.Network.{DeclaredNetwork, network_within}
 use Rattle.ats_network.specs.Pushes.{flow_push_fault, stream_push_fault, with_flow, with_stream}
@@ -29,7 +28,7 @@ use Rattle.ats_network_file.specs.LinkLocal.{flows_at, streams_at}
 use Rattle.ats_network_file.specs.Reading.{links_of, most_ports_of, network_in, nodes_of, tables_of}
 use Rattle.ats_network_file.specs.Routes.{is_valid, legs_of, may_declare, ports_of}
 use Rattle.ats_network_file.specs.Senders.{all_added, flow_added, flow_over, flows_in, refusal_of, stream_added}
-use Rattle.ats_network_file.specs.Senders.{stream_over, streams_in}
+use Rattle.ats_network_file.specs.Senders.{stream_fault_over, stream_over, streams_in}
 use Rattle.ats_network_file.specs.declared.senders.Place.{Place}
 use Rattle.ats_network_file.specs.declared.senders.SenderTable.TheVariants.{Flow, LinkLocal, LinkLocalFlow, Stream}
 use Rattle.ats_network_file.specs.declared.fault.NetFault.{NetFault}
@@ -81,7 +80,7 @@ stream_anywhere format s p q e =
     (λ x. no_fault (refusal_of p) (refusal_of q) (stream_push_fault s x) (with_stream s x)))
   where
     broken : DeclaredLegs → Option StreamFault
-    broken legs = stream_fault_within s.most_ports e.classes (stream_over legs e)
+    broken legs = stream_fault_over s.topology s.most_ports e.classes (stream_over legs e)
 
     may : DeclaredLegs → Bool
     may legs = may_declare format s.topology (routes_of legs.ports legs.branches)

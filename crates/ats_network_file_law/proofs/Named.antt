@@ -18,7 +18,7 @@ use Rattle.ats_streams.specs.Flow.{DeclaredFlow}
 use Rattle.ats_network.specs.Network.{DeclaredNetwork}
 use Rattle.ats_network.specs.Sender.{Sender, flow_sender, stream_sender}
 use Rattle.ats_network_table.specs.Kinds.{name_in, short_name_in, some_where}
-use Rattle.ats_network_table.specs.Walk.{Entry, classes_at, formed, identity_at, long_at, name_at, short_at}
+use Rattle.ats_network_table.specs.Walk.{clock_at, Entry, classes_at, formed, identity_at, long_at, name_at, short_at}
 use Rattle.ats_network_table.specs.Walk.{short_name_at}
 use Rattle.ats_network_table.specs.Walk.{top_of, wrong_kind}
 use Rattle.ats_network_table.specs.Words.{greatest_processing_key, key_text, least_processing_key}
@@ -120,8 +120,10 @@ bridge_kept e b h =
     let name = both (name_at e key.Name) _ b well.then in
     let least = both (short_at e (least_processing_key e.format)) _ b name.then in
     let most = both (short_at e (greatest_processing_key e.format)) _ b least.then in
+    let residence = both (short_at e key.ResidenceNs) _ b most.then in
+    let ppm = both (clock_at e key.ClockPpm) _ b residence.then in
     subst IsNamed
-    (made_named (λ (b : BridgeEntry). b.name) name.first (short_at e key.ResidenceNs) _ b (λ n. refl) most.then)
+    (made_named (λ (b : BridgeEntry). b.name) name.first (clock_at e key.ClockStepPs) _ b (λ n. refl) ppm.then)
     (name_kept e name.first name.is)
 
 -- the entries of streams and flows

@@ -4,18 +4,22 @@ use Rattle.std.proofs.Common.{map, Option, Some, None, Result, Ok, inl, inr, ref
 use Rattle.std.proofs.Common.{length-append}
 use Rattle.std.specs.Prelude.{◌||◌, is_some, filter, nat_le, nat_lt}
 use Rattle.std.specs.List.{AllZip, list_any, position_from}
-use Rattle.std.proofs.lemmas.Bool.{le-leb, leb-true, lt-ltb, ltb-true}
+use Rattle.std.proofs.lemmas.Bool.{false≢true, le-leb, leb-true, lt-ltb, ltb-true}
 use Rattle.std.proofs.lemmas.List.{append-nil, map-append}
 use Rattle.std.proofs.lemmas.List.Elements.{filter-append}
 use Rattle.std.proofs.lemmas.List.Sums.{sum_by_push}
+use Rattle.ats_facts.proofs.Options.{cond-none, option_or-none}
 use Rattle.ats_num.specs.Failure.{◌>>=◌}
 use Rattle.ats_num.specs.Places.{place_of}
 use Rattle.ats_topology.specs.Topology.{DeclaredTopology}
-use Rattle.ats_streams.specs.Stream.{DeclaredStream}
+use Rattle.ats_streams.specs.Stream.{DeclaredStream, stream_fault_within}
 use Rattle.ats_streams.specs.Flow.{DeclaredFlow}
+use Rattle.ats_streams.specs.declared.fault.StreamFault.TheVariants as rule
 use Rattle.ats_network.specs.Network.{DeclaredNetwork, names_of, ports_together, senders_of}
+use Rattle.ats_network.specs.Rates.{is_overrated}
+use Rattle.ats_network.specs.Sender.{stream_sender}
 use Rattle.ats_network.specs.Pushes.{flow_push_fault, has_identity, is_identity, is_identity_taken, stream_push_fault}
-use Rattle.ats_network.specs.Pushes.{is_full, with_flow, with_stream}
+use Rattle.ats_network.specs.Pushes.{is_beyond, with_flow, with_stream}
 use Rattle.ats_network.specs.Tables.{flow_names, stream_identities, stream_names}
 use Rattle.ats_network.specs.declared.fault.PushFault.{PushFault}
 use Rattle.ats_network.specs.declared.fault.PushFault.TheVariants.{NameTaken, IdentityTaken, Limit}
@@ -25,18 +29,19 @@ use Rattle.ats_route_tree.specs.Legs.{DeclaredLegs}
 use Rattle.ats_network_toml.specs.Document as file
 use Rattle.ats_network_table.specs.declared.format.Format.{Format}
 use Rattle.ats_network_file.specs.Reading.{most_ports_of}
-use Rattle.ats_network_file.specs.Senders.{flow_added, flow_over, legs_in, path_in, stream_added, stream_over}
+use Rattle.ats_network_file.specs.Senders.{flow_added, flow_over, legs_in, path_in, rate_fault, stream_added}
+use Rattle.ats_network_file.specs.Senders.{stream_fault_over, stream_over}
 use Rattle.ats_network_file.specs.declared.senders.Place.{Place}
 use Rattle.ats_network_file.specs.declared.fault.NetFault.{NetFault}
 use Rattle.ats_network_file_law.specs.SenderFaults as law
-use Rattle.ats_network_file_law.specs.SenderFaults.{IsPortsPast, IsRouted, Kind, SenderEntry, a_flow, a_stream}
-use Rattle.ats_network_file_law.specs.SenderFaults.{count_in, flow}
+use Rattle.ats_network_file_law.specs.SenderFaults.{IsOverLimit, IsPortsPast, IsRouted, Kind, SenderEntry}
+use Rattle.ats_network_file_law.specs.SenderFaults.{a_flow, a_stream, broken_over, count_in, flow}
 use Rattle.ats_network_file_law.specs.SenderFaults.{identity_in, is_identity_given, name_in, stands_in, stream}
 use Rattle.ats_network_file_law.proofs.Ends.{grouped}
 use Rattle.ats_network_file_law.proofs.Entries.{AddsFlow, AddsStream, flow_stands, stream_stands}
 use Rattle.ats_network_file_law.proofs.Routed.{Reads, alone, flow_reads, routed_once, stream_reads, zipped_more}
 use Rattle.ats_network_file_law.proofs.Routed.{zipped_once}
-use Rattle.ats_network_file_law.proofs.SenderSteps.{IsOver, Judges, fault_had, had_given, onward}
+use Rattle.ats_network_file_law.proofs.SenderSteps.{Judges, fault_had, had_given, onward}
 use Rattle.ats_network_file_law.proofs.SenderWalks.{TellsOne}
 
 -- a network has the streams of these entries
@@ -163,13 +168,25 @@ stream_next format topology done s n e next h a =
       no_flows = omega (arith, none, flows);
     }
 
--- a network is full just where there are as many streams as may be, or with the entry their ports are too many
+-- no rate or burst of a stream that breaks no rule is over the limits of a scheduler
+slow_enough : (topology : DeclaredTopology) (most : ℕ) (e : file.DeclaredStream) (legs : DeclaredLegs)
+    → stream_fault_over topology most e.classes (stream_over legs e) ≡ None
+    → is_overrated topology (stream_sender (stream_over legs e)) ≡ false
+slow_enough topology most e legs ruled =
+    cond-none (is_overrated topology (stream_sender (stream_over legs e))) rule.Limit
+    (option_or-none (stream_fault_within most e.classes (stream_over legs e))
+    (rate_fault topology (stream_over legs e)) ruled).1
+
+-- a stream is over a limit just where its entry is
 stream_past : (format : Format) (topology : DeclaredTopology) (done : List SenderEntry) (s : DeclaredNetwork)
     (n : Place)
     (e : file.DeclaredStream) (own : DeclaredLegs) → StreamsStand format topology done s
-    → IsRouted format topology (stream n e) own → is_full s.streams own.ports ≡ true
-    → IsOver format topology done (stream n e)
-stream_past format topology done s n e own h routed full = by (nat_le MAX_STREAMS (length s.streams)) refl full
+    → IsRouted format topology (stream n e) own
+    → broken_over topology (most_ports_of format) (stream n e) own ≡ None → is_beyond s (stream_over own e) ≡ true
+    → IsOverLimit format topology done (stream n e)
+stream_past format topology done s n e own h routed ruled beyond =
+    by (nat_le MAX_STREAMS (length s.streams)) refl
+    (nat_lt MAX_PORTS_TOGETHER (ports_together s.streams + length own.ports)) refl beyond
   where
     together : nat_lt MAX_PORTS_TOGETHER (ports_together s.streams + length own.ports) ≡ true
         → MAX_PORTS_TOGETHER < law.ports_together (h.legs ++ own ∷ [])
@@ -181,33 +198,46 @@ stream_past format topology done s n e own h routed full = by (nat_le MAX_STREAM
     )
 
     by : (b : Bool) → nat_le MAX_STREAMS (length s.streams) ≡ b
-        → (b || nat_lt MAX_PORTS_TOGETHER (ports_together s.streams + length own.ports)) ≡ true
-        → IsOver format topology done (stream n e)
-    by true many f = inl (omega (arith, leb-true MAX_STREAMS (length s.streams) many, h.many))
-    by false few f = inr (record {
+        → (c : Bool) → nat_lt MAX_PORTS_TOGETHER (ports_together s.streams + length own.ports) ≡ c
+        → ((b || c) || is_overrated s.topology (stream_sender (stream_over own e))) ≡ true
+        → IsOverLimit format topology done (stream n e)
+    by true many c ports f = inl (omega (arith, leb-true MAX_STREAMS (length s.streams) many, h.many))
+    by false few true ports f = inr (record {
       stands = refl;
       legs = h.legs ++ own ∷ [];
       routed = zipped_more (IsRouted format topology) (filter (stands_in a_stream) done) h.legs
           (stream n e) own h.routed routed;
-      past = together f;
+      past = together ports;
     })
+    by false few false ports f =
+        absurd (false≢true (sym (slow_enough topology (most_ports_of format) e own ruled)
+        ∙ ap (λ (t : DeclaredTopology). is_overrated t (stream_sender (stream_over own e))) (sym h.over) ∙ f))
 
-stream_over_full : (format : Format) (topology : DeclaredTopology) (done : List SenderEntry) (s : DeclaredNetwork)
+-- the second of three tests passes
+second : (b d : Bool) → ((b || true) || d) ≡ true
+second true d = refl
+second false d = refl
+
+stream_over_limit : (format : Format) (topology : DeclaredTopology) (done : List SenderEntry) (s : DeclaredNetwork)
     (n : Place) (e : file.DeclaredStream) (own : DeclaredLegs) → StreamsStand format topology done s
-    → IsRouted format topology (stream n e) own → IsOver format topology done (stream n e)
-    → is_full s.streams own.ports ≡ true
-stream_over_full format topology done s n e own h routed over = by over
+    → IsRouted format topology (stream n e) own → IsOverLimit format topology done (stream n e)
+    → is_beyond s (stream_over own e) ≡ true
+stream_over_limit format topology done s n e own h routed over = by over
   where
-    second : (b : Bool) → nat_lt MAX_PORTS_TOGETHER (ports_together s.streams + length own.ports) ≡ true
-        → (b || nat_lt MAX_PORTS_TOGETHER (ports_together s.streams + length own.ports)) ≡ true
-    second true f = refl
-    second false f = f
+    many : Bool
+    many = nat_le MAX_STREAMS (length s.streams)
+
+    ports : Bool
+    ports = nat_lt MAX_PORTS_TOGETHER (ports_together s.streams + length own.ports)
+
+    rates : Bool
+    rates = is_overrated s.topology (stream_sender (stream_over own e))
 
     by : (MAX_STREAMS ≤ count_in a_stream done) ⊎ IsPortsPast format topology done (stream n e)
-        → is_full s.streams own.ports ≡ true
-    by (inl many) =
-        ap (λ (b : Bool). b || nat_lt MAX_PORTS_TOGETHER (ports_together s.streams + length own.ports))
-        (le-leb MAX_STREAMS (length s.streams) (omega (arith, many, h.many)))
+        → ((many || ports) || rates) ≡ true
+    by (inl so_many) =
+        ap (λ (b : Bool). (b || ports) || rates)
+        (le-leb MAX_STREAMS (length s.streams) (omega (arith, so_many, h.many)))
     by (inr past) =
         let legs : past.legs ≡ h.legs ++ own ∷ [] =
         zipped_once (IsRouted format topology) (routed_once format topology)
@@ -216,14 +246,14 @@ stream_over_full format topology done s n e own h routed over = by over
         (zipped_more (IsRouted format topology) (filter (stands_in a_stream) done) h.legs
         (stream n e) own h.routed routed)
         in
-        second (nat_le MAX_STREAMS (length s.streams))
+        ap (λ (b : Bool). (many || b) || rates)
         (lt-ltb MAX_PORTS_TOGETHER (ports_together s.streams + length own.ports) (omega (
           arith,
           past.past,
           ap (λ (ls : List DeclaredLegs). law.ports_together ls) legs,
           h.ports,
           together_more h.legs own,
-        )))
+        ))) ∙ second many rates
 
 -- what a network takes of a stream it takes of the entry
 stream_judges : (format : Format) (topology : DeclaredTopology) (done : List SenderEntry) (s : DeclaredNetwork)
@@ -231,15 +261,15 @@ stream_judges : (format : Format) (topology : DeclaredTopology) (done : List Sen
     (e : file.DeclaredStream) → StreamsStand format topology done s
     → Judges format topology done (stream n e) (λ legs. stream_over legs e) (stream_push_fault s)
 stream_judges format topology done s n e h = record {
-  full = λ legs. is_full s.streams legs.ports;
+  beyond = λ legs. is_beyond s (stream_over legs e);
   pushes = λ legs. same_push (is_some (place_of e.name (names_of (senders_of s))))
-      (is_identity_taken s.streams e.identity) (is_full s.streams legs.ports)
+      (is_identity_taken s.streams e.identity) (is_beyond s (stream_over legs e))
       (is_some (place_of e.name (map name_in done))) (is_identity_given done e.identity)
-      (is_full s.streams legs.ports)
+      (is_beyond s (stream_over legs e))
       (ap (λ ns. is_some (place_of e.name ns)) (names_there format topology done s h))
       (identity_taken s.streams done e.identity h.identities) refl;
-  past = λ legs routed full. stream_past format topology done s n e legs h routed full;
-  given = λ legs routed over. stream_over_full format topology done s n e legs h routed over;
+  past = λ legs routed ruled beyond. stream_past format topology done s n e legs h routed ruled beyond;
+  given = λ legs routed over. stream_over_limit format topology done s n e legs h routed over;
 }
 
 pub stream_tells : (format : Format) (topology : DeclaredTopology) (done : List SenderEntry) (s : DeclaredNetwork)
@@ -257,10 +287,14 @@ stream_tells format topology done s n e h = record {
 }
   where
     as_most : (legs_in format s.topology n e.routes
-        >>= onward (most_ports_of format) (stream n e) (λ legs. stream_over legs e) (stream_push_fault s)
+        >>= onward topology (most_ports_of format) (stream n e) (λ legs. stream_over legs e) (stream_push_fault s)
         (with_stream s)) ≡ stream_added format s n e
     as_most = ap (λ (most : ℕ). legs_in format s.topology n e.routes
-        >>= onward most (stream n e) (λ legs. stream_over legs e) (stream_push_fault s) (with_stream s)) (sym h.most)
+        >>= onward topology most (stream n e) (λ legs. stream_over legs e) (stream_push_fault s) (with_stream s))
+        (sym h.most)
+        ∙ ap (λ (t : DeclaredTopology). legs_in format s.topology n e.routes
+        >>= onward t s.most_ports (stream n e) (λ legs. stream_over legs e) (stream_push_fault s) (with_stream s))
+        (sym h.over)
 
     reads : Reads format topology (stream n e) (legs_in format s.topology n e.routes)
     reads = subst (λ (t : DeclaredTopology). Reads format topology (stream n e) (legs_in format t n e.routes))
@@ -292,12 +326,12 @@ flow_judges : (format : Format) (topology : DeclaredTopology) (done : List Sende
     (e : file.DeclaredFlow) → FlowsStand format topology done s
     → Judges format topology done (flow n e) (λ legs. flow_over legs.ports e) (flow_push_fault s)
 flow_judges format topology done s n e h = record {
-  full = λ legs. nat_le MAX_FLOWS (count_in a_flow done);
+  beyond = λ legs. nat_le MAX_FLOWS (count_in a_flow done);
   pushes = λ legs. same_push (is_some (place_of e.name (names_of (senders_of s)))) false
       (nat_le MAX_FLOWS (length s.flows)) (is_some (place_of e.name (map name_in done)))
       false (nat_le MAX_FLOWS (count_in a_flow done))
       (ap (λ ns. is_some (place_of e.name ns)) h.names) refl (ap (nat_le MAX_FLOWS) h.many);
-  past = λ legs routed full. inl (leb-true MAX_FLOWS (count_in a_flow done) full);
+  past = λ legs routed ruled beyond. inl (leb-true MAX_FLOWS (count_in a_flow done) beyond);
   given = λ legs routed over. by over;
 }
   where
@@ -326,9 +360,9 @@ flow_tells format topology done s n e h = record {
     reads = subst (λ (t : DeclaredTopology). Reads format topology (flow n e)
         (path_in format t n e.route >>= λ path. Ok (alone path))) (sym h.over) (flow_reads format topology e n)
 
-    as_legs : (read >>= onward (most_ports_of format) (flow n e) (λ legs. flow_over legs.ports e) (flow_push_fault s)
-        (with_flow s)) ≡ flow_added format s n e
-    as_legs = ap (λ (most : ℕ). read >>= onward most (flow n e) (λ legs. flow_over legs.ports e) (flow_push_fault s)
-        (with_flow s)) (sym h.most)
+    as_legs : (read >>= onward topology (most_ports_of format) (flow n e) (λ legs. flow_over legs.ports e)
+        (flow_push_fault s) (with_flow s)) ≡ flow_added format s n e
+    as_legs = ap (λ (most : ℕ). read >>= onward topology most (flow n e) (λ legs. flow_over legs.ports e)
+        (flow_push_fault s) (with_flow s)) (sym h.most)
         ∙ grouped (path_in format s.topology n e.route) (λ path. Ok (alone path))
-        (onward s.most_ports (flow n e) (λ legs. flow_over legs.ports e) (flow_push_fault s) (with_flow s))
+        (onward topology s.most_ports (flow n e) (λ legs. flow_over legs.ports e) (flow_push_fault s) (with_flow s))

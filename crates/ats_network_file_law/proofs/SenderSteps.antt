@@ -16,7 +16,7 @@ use Rattle.ats_network_file.specs.Senders.{refusal_of, table_of}
 use Rattle.ats_network_file.specs.declared.senders.SenderTable.{SenderTable}
 use Rattle.ats_network_file.specs.declared.fault.NetFault.{NetFault}
 use Rattle.ats_network_file.specs.declared.fault.NetFault.TheVariants as net
-use Rattle.ats_network_file_law.specs.SenderFaults.{HasFault, IsAt, IsNew, IsPathless, IsPortsPast, IsRouted, IsRuled}
+use Rattle.ats_network_file_law.specs.SenderFaults.{HasFault, IsAt, IsNew, IsOverLimit, IsPathless, IsRouted, IsRuled}
 use Rattle.ats_network_file_law.specs.SenderFaults.{SenderEntry, broken_over, count_in, identity_in}
 use Rattle.ats_network_file_law.specs.SenderFaults.{is_identity_given, is_name_given, kind_in, most_in, name_in}
 use Rattle.ats_network_file_law.specs.SenderFaults.{place_in}
@@ -42,35 +42,31 @@ pathless format topology entry read f reads h = λ legs routed. refused read h (
     refused (Ok x) e o = cc e
     refused (Err x) e o = cc o
 
--- as many streams, or flows, stand before an entry as a network takes, or with it the streams have too many ports
-abbrev pub IsOver : Format → DeclaredTopology → List SenderEntry → SenderEntry → Type 0
-IsOver format topology before entry =
-    (most_in (kind_in entry) ≤ count_in (kind_in entry) before) ⊎ IsPortsPast format topology before entry
-
--- why the network takes no sender of the entry behind these, where it is known whether it is full
+-- why the network takes no sender of the entry behind these, where it is known whether it is over a limit
 abbrev pub due : List SenderEntry → SenderEntry → Bool → Option PushFault
-due before entry full =
+due before entry beyond =
     if is_name_given before (name_in entry) then Some NameTaken
     else if is_identity_given before (identity_in entry) then Some IdentityTaken
-    else if full then Some Limit
+    else if beyond then Some Limit
     else None
 
 -- how a network judges the sender of an entry over its legs
 pub record Judges {X : Type 0} (format : Format) (topology : DeclaredTopology) (before : List SenderEntry)
     (entry : SenderEntry) (over : DeclaredLegs → X) (push : X → Option PushFault) : Type 0 where
-  pub full : DeclaredLegs → Bool
-  pub pushes : (legs : DeclaredLegs) → push (over legs) ≡ due before entry (full legs)
-  pub past : (legs : DeclaredLegs) → IsRouted format topology entry legs → full legs ≡ true
-      → IsOver format topology before entry
-  pub given : (legs : DeclaredLegs) → IsRouted format topology entry legs → IsOver format topology before entry
-      → full legs ≡ true
+  pub beyond : DeclaredLegs → Bool
+  pub pushes : (legs : DeclaredLegs) → push (over legs) ≡ due before entry (beyond legs)
+  pub past : (legs : DeclaredLegs) → IsRouted format topology entry legs
+      → broken_over topology (most_ports_of format) entry legs ≡ None → beyond legs ≡ true
+      → IsOverLimit format topology before entry
+  pub given : (legs : DeclaredLegs) → IsRouted format topology entry legs → IsOverLimit format topology before entry
+      → beyond legs ≡ true
 
 -- what becomes of the legs of the entry
-abbrev pub onward : {X : Type 0} → ℕ → SenderEntry → (DeclaredLegs → X) → (X → Option PushFault)
+abbrev pub onward : {X : Type 0} → DeclaredTopology → ℕ → SenderEntry → (DeclaredLegs → X) → (X → Option PushFault)
     → (X → DeclaredNetwork) → DeclaredLegs → Result DeclaredNetwork NetFault
-onward most entry over push grown legs =
-    unless (net.Sender (place_in entry).table (place_in entry).number) (broken_over most entry legs) (over legs)
-    >>= λ x. unless (refusal_of (place_in entry)) (push x) (grown x)
+onward topology most entry over push grown legs =
+    unless (net.Sender (place_in entry).table (place_in entry).number) (broken_over topology most entry legs)
+    (over legs) >>= λ x. unless (refusal_of (place_in entry)) (push x) (grown x)
 
 -- the place of an entry
 at_its_place : (entry : SenderEntry) → IsAt entry (place_in entry).table (place_in entry).number
@@ -78,13 +74,13 @@ at_its_place entry = record { stands = refl; counted = refl }
 
 -- an entry that breaks no rule has the fault that it is not taken for
 push_fault : (format : Format) (topology : DeclaredTopology) (before : List SenderEntry) (entry : SenderEntry)
-    (full : Bool)
+    (beyond : Bool)
     (f : NetFault) (x : DeclaredNetwork) → IsRuled format topology entry
-    → (full ≡ true → IsOver format topology before entry)
-    → unless (refusal_of (place_in entry)) (due before entry full) x ≡ Err f → HasFault format topology before entry f
-push_fault format topology before entry full f x ruled over h = by (is_name_given before (name_in entry)) refl h
+    → (beyond ≡ true → IsOverLimit format topology before entry)
+    → unless (refusal_of (place_in entry)) (due before entry beyond) x ≡ Err f → HasFault format topology before entry f
+push_fault format topology before entry beyond f x ruled over h = by (is_name_given before (name_in entry)) refl h
   where
-    past : (b : Bool) → full ≡ b → IsNew format topology before entry
+    past : (b : Bool) → beyond ≡ b → IsNew format topology before entry
         → is_identity_given before (identity_in entry) ≡ false
         → unless (refusal_of (place_in entry)) (cond b (Some Limit) None) x ≡ Err f
         → HasFault format topology before entry f
@@ -94,17 +90,17 @@ push_fault format topology before entry full f x ruled over h = by (is_name_give
     past false e new own g = cc g
 
     own : (b : Bool) → is_identity_given before (identity_in entry) ≡ b → IsNew format topology before entry
-        → unless (refusal_of (place_in entry)) (cond b (Some IdentityTaken) (cond full (Some Limit) None)) x ≡ Err f
+        → unless (refusal_of (place_in entry)) (cond b (Some IdentityTaken) (cond beyond (Some Limit) None)) x ≡ Err f
         → HasFault format topology before entry f
     own true e new g =
         let same : net.IdentityTwice (place_in entry).number ≡ f = cc g in
         subst (HasFault format topology before entry) same
         (refl, record { new = new; taken = e })
-    own false e new g = past full refl new e g
+    own false e new g = past beyond refl new e g
 
     by : (b : Bool) → is_name_given before (name_in entry) ≡ b
         → unless (refusal_of (place_in entry)) (cond b (Some NameTaken)
-        (cond (is_identity_given before (identity_in entry)) (Some IdentityTaken) (cond full (Some Limit) None))) x
+        (cond (is_identity_given before (identity_in entry)) (Some IdentityTaken) (cond beyond (Some Limit) None))) x
         ≡ Err f
         → HasFault format topology before entry f
     by true e g =
@@ -120,18 +116,18 @@ pub fault_had : {X : Type 0} (format : Format) (topology : DeclaredTopology) (be
     (grown : X → DeclaredNetwork) (f : NetFault)
     → Reads format topology entry read
     → Judges format topology before entry over push
-    → (read >>= onward (most_ports_of format) entry over push grown) ≡ Err f
+    → (read >>= onward topology (most_ports_of format) entry over push grown) ≡ Err f
     → HasFault format topology before entry f
 fault_had {X} format topology before entry read over push grown f reads judges h =
-    elim (ended read (onward (most_ports_of format) entry over push grown) f h) [
+    elim (ended read (onward topology (most_ports_of format) entry over push grown) f h) [
       | inl lost ↦ subst (HasFault format topology before entry) (reads.fault f lost)
           (at_its_place entry, pathless format topology entry read f reads lost)
       | inr later ↦ ruled later.value (reads.some later.value later.is)
-          (broken_over (most_ports_of format) entry later.value) refl later.then
+          (broken_over topology (most_ports_of format) entry later.value) refl later.then
     ]
   where
     ruled : (legs : DeclaredLegs) → IsRouted format topology entry legs → (o : Option StreamFault)
-        → broken_over (most_ports_of format) entry legs ≡ o
+        → broken_over topology (most_ports_of format) entry legs ≡ o
         → (unless (net.Sender (place_in entry).table (place_in entry).number) o (over legs)
         >>= λ x. unless (refusal_of (place_in entry)) (push x) (grown x)) ≡ Err f
         → HasFault format topology before entry f
@@ -140,24 +136,24 @@ fault_had {X} format topology before entry read over push grown f reads judges h
         subst (HasFault format topology before entry) same
         (at_its_place entry, record { legs = legs; routed = routed; broken = e })
     ruled legs routed None e g =
-        push_fault format topology before entry (judges.full legs) f (grown (over legs))
-        (record { legs = legs; routed = routed; kept = e }) (judges.past legs routed)
+        push_fault format topology before entry (judges.beyond legs) f (grown (over legs))
+        (record { legs = legs; routed = routed; kept = e }) (judges.past legs routed e)
         (ap (λ (o : Option PushFault). unless (refusal_of (place_in entry)) o (grown (over legs)))
         (sym (judges.pushes legs)) ∙ g)
 
-due_name : (before : List SenderEntry) (entry : SenderEntry) (full : Bool)
-    → is_name_given before (name_in entry) ≡ true → due before entry full ≡ Some NameTaken
-due_name before entry full h = rw h refl
+due_name : (before : List SenderEntry) (entry : SenderEntry) (beyond : Bool)
+    → is_name_given before (name_in entry) ≡ true → due before entry beyond ≡ Some NameTaken
+due_name before entry beyond h = rw h refl
 
-due_identity : (before : List SenderEntry) (entry : SenderEntry) (full : Bool)
+due_identity : (before : List SenderEntry) (entry : SenderEntry) (beyond : Bool)
     → is_name_given before (name_in entry) ≡ false → is_identity_given before (identity_in entry) ≡ true
-    → due before entry full ≡ Some IdentityTaken
-due_identity before entry full h g = rw (h, g) refl
+    → due before entry beyond ≡ Some IdentityTaken
+due_identity before entry beyond h g = rw (h, g) refl
 
-due_past : (before : List SenderEntry) (entry : SenderEntry) (full : Bool)
+due_past : (before : List SenderEntry) (entry : SenderEntry) (beyond : Bool)
     → is_name_given before (name_in entry) ≡ false → is_identity_given before (identity_in entry) ≡ false
-    → full ≡ true → due before entry full ≡ Some Limit
-due_past before entry full h g past = rw (h, g, past) refl
+    → beyond ≡ true → due before entry beyond ≡ Some Limit
+due_past before entry beyond h g past = rw (h, g, past) refl
 
 -- an entry is refused for the fault that it has
 pub had_given : {X : Type 0} (format : Format) (topology : DeclaredTopology) (before : List SenderEntry)
@@ -166,18 +162,18 @@ pub had_given : {X : Type 0} (format : Format) (topology : DeclaredTopology) (be
     (grown : X → DeclaredNetwork) (f : NetFault)
     → Reads format topology entry read
     → Judges format topology before entry over push → HasFault format topology before entry f
-    → (read >>= onward (most_ports_of format) entry over push grown) ≡ Err f
+    → (read >>= onward topology (most_ports_of format) entry over push grown) ≡ Err f
 had_given {X} format topology before entry read over push grown f reads judges h = by f h
   where
     routed : (legs : DeclaredLegs) → IsRouted format topology entry legs
-        → (read >>= onward (most_ports_of format) entry over push grown)
-        ≡ onward (most_ports_of format) entry over push grown legs
+        → (read >>= onward topology (most_ports_of format) entry over push grown)
+        ≡ onward topology (most_ports_of format) entry over push grown legs
     routed legs r =
-        ap (λ (p : Result DeclaredLegs NetFault). p >>= onward (most_ports_of format) entry over push grown)
+        ap (λ (p : Result DeclaredLegs NetFault). p >>= onward topology (most_ports_of format) entry over push grown)
         (reads.given legs r)
 
-    pushed : (r : IsRuled format topology entry) (p : PushFault) → due before entry (judges.full r.legs) ≡ Some p
-        → (read >>= onward (most_ports_of format) entry over push grown) ≡ Err (refusal_of (place_in entry) p)
+    pushed : (r : IsRuled format topology entry) (p : PushFault) → due before entry (judges.beyond r.legs) ≡ Some p
+        → (read >>= onward topology (most_ports_of format) entry over push grown) ≡ Err (refusal_of (place_in entry) p)
     pushed r p e =
         routed r.legs r.routed
         ∙ ap (λ (o : Option StreamFault). unless (net.Sender (place_in entry).table (place_in entry).number) o
@@ -195,9 +191,9 @@ had_given {X} format topology before entry read over push grown f reads judges h
         ∙ ap (λ (u : ℕ). let r : Result DeclaredNetwork NetFault = Err (fault t u) in r) (sym at.counted)
 
     by : (g : NetFault) → HasFault format topology before entry g
-        → (read >>= onward (most_ports_of format) entry over push grown) ≡ Err g
+        → (read >>= onward topology (most_ports_of format) entry over push grown) ≡ Err g
     by (net.BadPath t m) k =
-        ap (λ (p : Result DeclaredLegs NetFault). p >>= onward (most_ports_of format) entry over push grown)
+        ap (λ (p : Result DeclaredLegs NetFault). p >>= onward topology (most_ports_of format) entry over push grown)
         (pathless_err format topology entry read reads k.1)
         ∙ placed (λ u v. net.BadPath u v) t m k.0
     by (net.Sender t m rule) k =
@@ -206,15 +202,15 @@ had_given {X} format topology before entry read over push grown f reads judges h
         (over k.1.legs) >>= λ x. unless (refusal_of (place_in entry)) (push x) (grown x)) k.1.broken
         ∙ placed (λ u v. net.Sender u v rule) t m k.0
     by (net.SenderTwice t m) k =
-        pushed k.1.ruled NameTaken (due_name before entry (judges.full k.1.ruled.legs) k.1.taken)
+        pushed k.1.ruled NameTaken (due_name before entry (judges.beyond k.1.ruled.legs) k.1.taken)
         ∙ placed (λ u v. net.SenderTwice u v) t m k.0
     by (net.IdentityTwice m) k =
         pushed k.1.new.ruled IdentityTaken
-        (due_identity before entry (judges.full k.1.new.ruled.legs) k.1.new.named k.1.taken)
+        (due_identity before entry (judges.beyond k.1.new.ruled.legs) k.1.new.named k.1.taken)
         ∙ ap (λ (u : ℕ). let r : Result DeclaredNetwork NetFault = Err (net.IdentityTwice u) in r) (sym k.0)
     by (net.Form (form.Limit t)) k =
         let ruled = k.1.new.ruled in
-        pushed ruled Limit (due_past before entry (judges.full ruled.legs) k.1.new.named k.1.own
+        pushed ruled Limit (due_past before entry (judges.beyond ruled.legs) k.1.new.named k.1.own
         (judges.given ruled.legs ruled.routed k.1.past))
         ∙ ap (λ u. let r : Result DeclaredNetwork NetFault = Err (net.Form (form.Limit u)) in r) (sym k.0)
     by (net.Form form.NotToml) k = absurd k

@@ -29,7 +29,8 @@ use Rattle.ats_network_file.specs.Reading.{links_of, nodes_of}
 use Rattle.ats_network_file.specs.Routes.{is_valid, legs_of, may_declare, ports_of}
 use Rattle.ats_network_file.specs.LinkLocal.{flows_at, streams_at}
 use Rattle.ats_network_file.specs.Senders.{all_added, flow_added, flow_made, flow_over, flows_in, legs_in, path_in}
-use Rattle.ats_network_file.specs.Senders.{refusal_of, stream_added, stream_made, stream_over, streams_in}
+use Rattle.ats_network_file.specs.Senders.{rate_fault, refusal_of, stream_added, stream_fault_over, stream_made}
+use Rattle.ats_network_file.specs.Senders.{stream_over, streams_in}
 use Rattle.ats_network_file.specs.declared.senders.Place.{Place}
 use Rattle.ats_network_file.specs.declared.senders.SenderTable.TheVariants.{Flow, LinkLocal, LinkLocalFlow, Stream}
 use Rattle.ats_network_file.specs.declared.fault.NetFault.{NetFault}
@@ -178,11 +179,11 @@ stream_step s n e most short =
     ∙ ap (λ (r : Result DeclaredLegs NetFault). as_long (r >>= behind)) (sym (same_legs s.topology n e short))
   where
     behind : DeclaredLegs → Result DeclaredNetwork NetFault
-    behind legs = stream_made s.most_ports n e (stream_over legs e)
+    behind legs = stream_made s.topology s.most_ports n e (stream_over legs e)
         >>= λ x. unless (refusal_of n) (stream_push_fault s x) (with_stream s x)
 
     by : (r : Result DeclaredLegs NetFault) → legs_in Three s.topology n e.routes ≡ r
-        → (r >>= λ legs. stream_made MAX_PORTS n e (stream_over legs e)
+        → (r >>= λ legs. stream_made s.topology MAX_PORTS n e (stream_over legs e)
         >>= λ x. unless (refusal_of n) (stream_push_fault s x) (long (with_stream s x)))
         ≡ as_long (r >>= behind)
     by (Err fault) h = refl
@@ -195,8 +196,9 @@ stream_step s n e most short =
         (routes_short s.topology e.routes routed.routes short routed.ports) in
         ap (λ (o : Option StreamFault). unless (net.Sender n.table n.number) o it
         >>= λ x. unless (refusal_of n) (stream_push_fault s x) (long (with_stream s x)))
-        (same_stream e.classes it few ∙ ap (λ (m : ℕ). stream_fault_within m e.classes it) (sym most))
-        ∙ later n (stream_made s.most_ports n e it) (stream_push_fault s) (with_stream s)
+        (ap (λ (o : Option StreamFault). option_or o (rate_fault s.topology it)) (same_stream e.classes it few)
+        ∙ ap (λ (m : ℕ). stream_fault_over s.topology m e.classes it) (sym most))
+        ∙ later n (stream_made s.topology s.most_ports n e it) (stream_push_fault s) (with_stream s)
 
 flow_step : (s : DeclaredNetwork) (n : Place) (e : file.DeclaredFlow) → s.most_ports ≡ MAX_SHORT_PORTS
     → HasShortRoute s.topology e.route → flow_added Three (long s) n e ≡ as_long (flow_added Two s n e)

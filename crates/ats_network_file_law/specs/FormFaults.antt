@@ -85,6 +85,8 @@ is_right e key.ProcessingNs = is_kind short_in e key.ProcessingNs
 is_right e key.ProcessingMinNs = is_kind short_in e key.ProcessingMinNs
 is_right e key.ProcessingMaxNs = is_kind short_in e key.ProcessingMaxNs
 is_right e key.ResidenceNs = is_kind short_in e key.ResidenceNs
+is_right e key.ClockPpm = is_kind short_in e key.ClockPpm
+is_right e key.ClockStepPs = is_kind short_in e key.ClockStepPs
 
 -- a key stands in the table, and what stands with it is not of its kind
 abbrev pub is_wrong : Entry → Key → Bool

@@ -2,6 +2,7 @@ pub mod Entries
 pub mod First
 pub mod TopologyFaults
 pub mod SenderFaults
+pub mod Limits
 pub mod FormFaults
 pub mod Passed
 pub mod Named

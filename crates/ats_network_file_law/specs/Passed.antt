@@ -38,7 +38,8 @@ pub record IsStationOf (entry : StationEntry) (node : Node) : Type 0 where
 
 pub record IsBridgeOf (entry : BridgeEntry) (node : Node) : Type 0 where
   pub name : node.name ≡ entry.name
-  pub kind : node.kind ≡ Bridge entry.processing_min_ns entry.processing_max_ns entry.residence_ns
+  pub kind : node.kind
+      ≡ Bridge entry.processing_min_ns entry.processing_max_ns entry.residence_ns entry.clock_ppm entry.clock_step_ps
 
 -- a link is that of a link's table
 pub record IsLinkOf (entry : LinkEntry) (link : Link) : Type 0 where

@@ -4,7 +4,6 @@ use Rattle.std.specs.List.{AllZip, enumerate_from, flat_map, list_any}
 use Rattle.ats_num.specs.Places.{place_of}
 use Rattle.ats_topology.specs.Faults.{topology_fault}
 use Rattle.ats_topology.specs.Topology.{DeclaredTopology, topology_of}
-use Rattle.ats_streams.specs.Stream.{stream_fault_within}
 use Rattle.ats_streams.specs.Flow.{flow_fault_within}
 use Rattle.ats_streams.specs.declared.fault.StreamFault.{StreamFault}
 use Rattle.ats_network.specs.Pushes.{is_identity}
@@ -16,7 +15,7 @@ use Rattle.ats_network_toml.specs.Document as file
 use Rattle.ats_network_file.specs.LinkLocal.{flows_at, streams_at}
 use Rattle.ats_network_file.specs.Reading.{links_of, most_ports_of, network_in, nodes_of}
 use Rattle.ats_network_file.specs.Routes.{may_declare, ports_of}
-use Rattle.ats_network_file.specs.Senders.{flow_over, stream_over, table_of}
+use Rattle.ats_network_file.specs.Senders.{flow_over, stream_fault_over, stream_over, table_of}
 use Rattle.ats_network_file.specs.declared.senders.Place.{Place}
 use Rattle.ats_network_file.specs.declared.senders.SenderTable.{SenderTable}
 use Rattle.ats_network_file.specs.declared.senders.SenderTable.TheVariants.{Flow, LinkLocal, LinkLocalFlow, Stream}
@@ -77,10 +76,11 @@ abbrev pub identity_in : SenderEntry → Option (ℕ × ℕ)
 identity_in (stream place e) = e.identity
 identity_in (flow place e) = None
 
--- the first rule that an entry breaks over legs, if it breaks one, where a route may have so many ports
-abbrev pub broken_over : ℕ → SenderEntry → DeclaredLegs → Option StreamFault
-broken_over most (stream place e) legs = stream_fault_within most e.classes (stream_over legs e)
-broken_over most (flow place e) legs = flow_fault_within most (flow_over legs.ports e)
+-- the first rule that an entry breaks over legs, if it breaks one, where a route may have so many ports; the last one
+-- of a stream is that no rate or burst of it is, by the clocks on its way, over the limits of a scheduler
+abbrev pub broken_over : DeclaredTopology → ℕ → SenderEntry → DeclaredLegs → Option StreamFault
+broken_over topology most (stream place e) legs = stream_fault_over topology most e.classes (stream_over legs e)
+broken_over topology most (flow place e) legs = flow_fault_within most (flow_over legs.ports e)
 
 -- one of these entries has this name
 abbrev pub is_name_given : List SenderEntry → List ℕ → Bool
@@ -127,13 +127,13 @@ pub record IsBreach (format : Format) (topology : DeclaredTopology) (entry : Sen
     : Type 0 where
   pub legs : DeclaredLegs
   pub routed : IsRouted format topology entry legs
-  pub broken : broken_over (most_ports_of format) entry legs ≡ Some fault
+  pub broken : broken_over topology (most_ports_of format) entry legs ≡ Some fault
 
 -- it has legs, and over them breaks no rule
 pub record IsRuled (format : Format) (topology : DeclaredTopology) (entry : SenderEntry) : Type 0 where
   pub legs : DeclaredLegs
   pub routed : IsRouted format topology entry legs
-  pub kept : broken_over (most_ports_of format) entry legs ≡ None
+  pub kept : broken_over topology (most_ports_of format) entry legs ≡ None
 
 -- it breaks no rule, and an entry before it has its name
 pub record IsNameTwice (format : Format) (topology : DeclaredTopology) (before : List SenderEntry)
@@ -165,13 +165,17 @@ pub record IsPortsPast (format : Format) (topology : DeclaredTopology) (before :
   pub routed : AllZip (IsRouted format topology) (filter (stands_in a_stream) before ++ entry ∷ []) legs
   pub past : MAX_PORTS_TOGETHER < ports_together legs
 
--- nothing is wrong with it but that as many streams, or flows, stand before it as a network takes, or that the streams
--- so far have too many ports
+-- as many streams, or flows, stand before it as a network takes, or the streams so far have too many ports
+abbrev pub IsOverLimit : Format → DeclaredTopology → List SenderEntry → SenderEntry → Type 0
+IsOverLimit format topology before entry =
+    (most_in (kind_in entry) ≤ count_in (kind_in entry) before) ⊎ IsPortsPast format topology before entry
+
+-- nothing is wrong with it but that it is over a limit
 pub record IsPast (format : Format) (topology : DeclaredTopology) (before : List SenderEntry) (entry : SenderEntry)
     : Type 0 where
   pub new : IsNew format topology before entry
   pub own : is_identity_given before (identity_in entry) ≡ false
-  pub past : (most_in (kind_in entry) ≤ count_in (kind_in entry) before) ⊎ IsPortsPast format topology before entry
+  pub past : IsOverLimit format topology before entry
 
 -- the entry of a sender has this number in this table
 pub record IsAt (entry : SenderEntry) (table : SenderTable) (number : ℕ) : Type 0 where

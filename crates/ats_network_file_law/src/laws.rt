@@ -6,6 +6,7 @@ ghost use Rattle.ats_network_file_law.specs.Entries.{EachEntryStands};
 ghost use Rattle.ats_network_file_law.specs.FormFaults.{FormFaultIsTheFirst};
 ghost use Rattle.ats_network_file_law.specs.FormatNumber.{EachHasItsNumber};
 ghost use Rattle.ats_network_file_law.specs.Formats.{FormatThreeIsFormatTwo};
+ghost use Rattle.ats_network_file_law.specs.Limits.{LimitsAreMeant};
 ghost use Rattle.ats_network_file_law.specs.LinkLocal.{TablesAreForEachPort};
 ghost use Rattle.ats_network_file_law.specs.Named.{EachNodeIsNamed, EachSenderIsNamed};
 ghost use Rattle.ats_network_file_law.specs.OneListener.{OneListenerIsByPath};
@@ -54,6 +55,13 @@ pub fn sender_fault_is_the_first()
     ensures { SenderFaultIsTheFirst }
 {}
 
+/// A law: a stream that declares a rate is over the limits of a scheduler by the clocks on its way exactly where not
+/// at each of its ports its rates and bursts are within them: what comes of it there along its routes, and what its
+/// scheduler has behind the port.
+pub fn limits_are_meant()
+    ensures { LimitsAreMeant }
+{}
+
 /// A law: what a text declares is what its tables do; a fault of form, where it has no tables, is its
 /// fault, and so is that of the tables' nodes and links.
 pub fn faults_are_passed_on()
@@ -95,8 +103,8 @@ pub fn each_has_its_number()
     ensures { EachHasItsNumber }
 {}
 
-/// A law: the tables of a text of format 3 which has none for each port, and whose streams say nothing that only format
-/// 3 can, declare what they do with the number 2 in the place of its format.
+/// A law: the tables of a text of format 3 which has none for each port, and whose streams and bridges say nothing that
+/// only format 3 can, declare what they do with the number 2 in the place of its format.
 pub fn format_three_is_format_two()
     ensures { FormatThreeIsFormatTwo }
 {}

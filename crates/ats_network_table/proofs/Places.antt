@@ -47,6 +47,8 @@ named_key key.ProcessingMinNs = refl
 named_key key.ProcessingMaxNs = refl
 named_key key.Classes = refl
 named_key key.Paths = refl
+named_key key.ClockPpm = refl
+named_key key.ClockStepPs = refl
 named_key key.Format = refl
 named_key key.Station = refl
 named_key key.Bridge = refl
@@ -79,6 +81,8 @@ at_slot key.ProcessingMinNs d = refl
 at_slot key.ProcessingMaxNs d = refl
 at_slot key.Classes d = refl
 at_slot key.Paths d = refl
+at_slot key.ClockPpm d = refl
+at_slot key.ClockStepPs d = refl
 at_slot key.Format d = refl
 at_slot key.Station d = refl
 at_slot key.Bridge d = refl
@@ -88,7 +92,7 @@ at_slot key.LinkLocal d = refl
 at_slot key.Flow d = refl
 at_slot key.LinkLocalFlow d = refl
 
-pub slot_within : (k : Key) → slot_of k < 30
+pub slot_within : (k : Key) → slot_of k < 32
 slot_within key.Name = omega arith
 slot_within key.Path = omega arith
 slot_within key.Class = omega arith
@@ -111,6 +115,8 @@ slot_within key.ProcessingMinNs = omega arith
 slot_within key.ProcessingMaxNs = omega arith
 slot_within key.Classes = omega arith
 slot_within key.Paths = omega arith
+slot_within key.ClockPpm = omega arith
+slot_within key.ClockStepPs = omega arith
 slot_within key.Format = omega arith
 slot_within key.Station = omega arith
 slot_within key.Bridge = omega arith
@@ -191,7 +197,7 @@ first_held (Some w) v rest = refl
 
 -- a member is put at the place of its key, where nothing is there
 pub at_its_slot : (values : List (Option (Bor Value))) (text : List ℕ) (v : Bor Value) (ms : Members) (slot : ℕ)
-    (k : Key) → length values ≡ 30 → named text ≡ Some slot
+    (k : Key) → length values ≡ 32 → named text ≡ Some slot
     → has_so_far (set values slot (option_or (get_or values slot None) (Some v))) ms k
     ≡ has_so_far values (member text (view v.now) ms) k
 at_its_slot values text v ms slot k long is = ⊎_elim here there (cases_eq (slot_of k) slot)

@@ -21,7 +21,8 @@ abbrev pub all_keys : List Key
 all_keys = key.Name ∷ key.Path ∷ key.Class ∷ key.RateBps ∷ key.BurstBits ∷ key.MinOctets ∷ key.MaxOctets
     ∷ key.From ∷ key.To ∷ key.DeadlineNs ∷ key.Address ∷ key.Vlan ∷ key.A ∷ key.B ∷ key.Mbps ∷ key.PropagationNs
     ∷ key.ProcessingNs ∷ key.ResidenceNs ∷ key.ProcessingMinNs ∷ key.ProcessingMaxNs ∷ key.Classes ∷ key.Paths
-    ∷ key.Format ∷ key.Station ∷ key.Bridge ∷ key.Link ∷ key.Stream ∷ key.LinkLocal ∷ key.Flow ∷ key.LinkLocalFlow ∷ []
+    ∷ key.ClockPpm ∷ key.ClockStepPs ∷ key.Format ∷ key.Station ∷ key.Bridge ∷ key.Link ∷ key.Stream ∷ key.LinkLocal
+    ∷ key.Flow ∷ key.LinkLocalFlow ∷ []
 
 -- the place of a key among all
 abbrev pub slot_of : Key → ℕ
@@ -47,14 +48,16 @@ slot_of key.ProcessingMinNs = 18
 slot_of key.ProcessingMaxNs = 19
 slot_of key.Classes = 20
 slot_of key.Paths = 21
-slot_of key.Format = 22
-slot_of key.Station = 23
-slot_of key.Bridge = 24
-slot_of key.Link = 25
-slot_of key.Stream = 26
-slot_of key.LinkLocal = 27
-slot_of key.Flow = 28
-slot_of key.LinkLocalFlow = 29
+slot_of key.ClockPpm = 22
+slot_of key.ClockStepPs = 23
+slot_of key.Format = 24
+slot_of key.Station = 25
+slot_of key.Bridge = 26
+slot_of key.Link = 27
+slot_of key.Stream = 28
+slot_of key.LinkLocal = 29
+slot_of key.Flow = 30
+slot_of key.LinkLocalFlow = 31
 
 -- one of these keys has this place
 abbrev pub is_listed : List Key → ℕ → Bool
@@ -70,7 +73,7 @@ has_other ks ms = list_any (stands_beside ks ms) all_keys
 
 -- at the place of each key there is its value, where the table has the key; and whether each member has one of the keys
 pub record AreSlots (entries : Entries) (values : List (Option (Bor Value))) (all_named : Bool) : Type 0 where
-  pub long : length values ≡ 30
+  pub long : length values ≡ 32
   pub each : (k : Key) → option_map (λ v. view v.now) (slice_index_or values (slot_of k) None)
       ≡ get_member (key_text k) (members_view entries)
   pub named : has_unknown all_keys (members_view entries) ≡ not all_named

@@ -47,8 +47,8 @@ lists_classes table = false
 abbrev pub has_classes : Entry → Bool
 has_classes e = lists_classes e.table && has e key.Classes
 
--- a key of the table's list has to stand there: all but the arrays at the top, the deadline, and these: a path, or
--- paths, or both ends; a class, or classes; address and VLAN, or neither
+-- a key of the table's list has to stand there: all but the arrays at the top, the deadline, the clock, and these: a
+-- path, or paths, or both ends; a class, or classes; address and VLAN, or neither
 abbrev pub is_due : Entry → Key → Bool
 is_due e key.Station = false
 is_due e key.Bridge = false
@@ -64,6 +64,8 @@ is_due e key.To = has e key.From
 is_due e key.Class = not (has_classes e)
 is_due e key.Classes = false
 is_due e key.DeadlineNs = false
+is_due e key.ClockPpm = false
+is_due e key.ClockStepPs = false
 is_due e key.Address = has e key.Vlan
 is_due e key.Vlan = has e key.Address
 is_due e _ = true
@@ -167,6 +169,15 @@ top_of tree = record {
 -- the deadline; an absent one is a second
 abbrev pub deadline_at : Entry → Result ℕ DocumentFault
 deadline_at e = if has e key.DeadlineNs then long_at e key.DeadlineNs else Ok 1000000000
+
+-- a bridge may have a clock in format 3
+abbrev pub may_have_clock : Format → Bool
+may_have_clock Three = true
+may_have_clock format = false
+
+-- a number of a bridge's clock; an absent one is 0
+abbrev pub clock_at : Entry → Key → Result ℕ DocumentFault
+clock_at e k = if may_have_clock e.format && has e k then short_at e k else Ok 0
 
 -- an address has 48 bits, and a VLAN identifier is 1 to 4094
 pub record IsIdentity (identity : ℕ × ℕ) : Type 0 where

@@ -42,6 +42,8 @@ key_text key.ProcessingMinNs = codes "processing_min_ns"
 key_text key.ProcessingMaxNs = codes "processing_max_ns"
 key_text key.Classes = codes "classes"
 key_text key.Paths = codes "paths"
+key_text key.ClockPpm = codes "clock_ppm"
+key_text key.ClockStepPs = codes "clock_step_ps"
 key_text key.Format = codes "format"
 key_text key.Station = codes "station"
 key_text key.Bridge = codes "bridge"
@@ -68,10 +70,12 @@ top_keys Three = key.Format ∷ key.Station ∷ key.Bridge ∷ key.Link ∷ key.
     ∷ key.LinkLocalFlow ∷ []
 top_keys format = key.Format ∷ key.Station ∷ key.Bridge ∷ key.Link ∷ key.Stream ∷ key.Flow ∷ []
 
--- the keys of a bridge in files of a format
+-- the keys of a bridge in files of a format: in format 3 it may have a clock
 abbrev pub bridge_keys : Format → List Key
 bridge_keys One = key.Name ∷ key.ProcessingNs ∷ key.ResidenceNs ∷ []
-bridge_keys format = key.Name ∷ key.ProcessingMinNs ∷ key.ProcessingMaxNs ∷ key.ResidenceNs ∷ []
+bridge_keys Two = key.Name ∷ key.ProcessingMinNs ∷ key.ProcessingMaxNs ∷ key.ResidenceNs ∷ []
+bridge_keys Three = key.Name ∷ key.ProcessingMinNs ∷ key.ProcessingMaxNs ∷ key.ResidenceNs ∷ key.ClockPpm
+    ∷ key.ClockStepPs ∷ []
 
 -- the keys of a stream behind those of its routes
 abbrev pub keys_behind_routes : List Key

@@ -49,6 +49,10 @@ pub enum Key {
     Classes,
     /// The paths of a stream, one to each listener, in format 3.
     Paths,
+    /// The greatest deviation of the clock of a bridge's groups, in parts in a million, in format 3.
+    ClockPpm,
+    /// The step of this clock, in picoseconds, in format 3.
+    ClockStepPs,
     /// The format's number, in the top table.
     Format,
     /// The array of stations.
@@ -97,6 +101,8 @@ impl Key {
             Key::ProcessingMaxNs => "processing_max_ns",
             Key::Classes => "classes",
             Key::Paths => "paths",
+            Key::ClockPpm => "clock_ppm",
+            Key::ClockStepPs => "clock_step_ps",
             Key::Format => "format",
             Key::Station => "station",
             Key::Bridge => "bridge",

@@ -9,9 +9,9 @@ ghost use Rattle.ats_network_table.specs.Words.{key_text};
 ghost use Rattle.ats_network_table.specs.Walk.{has, is_due, is_missing, missing_key, formed, wrong_kind, at};
 ghost use Rattle.ats_network_table.specs.Walk.{name_at, whole_at, short_at, long_at, format_at, path_at, paths_at};
 ghost use Rattle.ats_network_table.specs.Walk.{classes_at, has_classes, has_paths, lists_classes, listeners_at};
-ghost use Rattle.ats_network_table.specs.Walk.{may_branch};
+ghost use Rattle.ats_network_table.specs.Walk.{may_branch, may_have_clock};
 ghost use Rattle.ats_network_table.specs.Walk.{format_from, format_of, short_name_at, top_of};
-ghost use Rattle.ats_network_table.specs.Walk.{IsIdentity, identity_at, deadline_at};
+ghost use Rattle.ats_network_table.specs.Walk.{IsIdentity, clock_at, identity_at, deadline_at};
 ghost use Rattle.ats_num.specs.Failure.{or_fault, GivesSeen};
 ghost use Rattle.ats_network_table.specs.Kinds.{address_in, all_in, list_in, names_in, paths_in};
 
@@ -133,6 +133,8 @@ impl<'a> Section<'a> {
             Key::Class => !self.has_classes(),
             Key::Classes => false,
             Key::DeadlineNs => false,
+            Key::ClockPpm => false,
+            Key::ClockStepPs => false,
             Key::Address => self.has(Key::Vlan),
             Key::Vlan => self.has(Key::Address),
             _ => true,
@@ -395,6 +397,21 @@ impl<'a> Section<'a> {
             Ok(DEFAULT_DEADLINE_NS)
         }
     }
+
+    /// The number of a bridge's clock that stands with a key in format 3, of 32 bits; 0 where none stands there.
+    ///
+    /// # Errors
+    ///
+    /// `WrongKind` of the key, where it stands there with anything but a whole number from 0 to 2^32 - 1.
+    pub fn clock(&self, key: Key) -> Result<u32, DocumentFault>
+        ensures { result ≡ clock_at (entry_of self.now) key }
+    {
+        if may_have_clock(self.format) && self.has(key) {
+            self.short(key)
+        } else {
+            Ok(0)
+        }
+    }
 }
 
 // The format that a top table gives; format 1 where it gives none.
@@ -425,6 +442,16 @@ fn format_of(n: u64) -> Format
         1 => Format::One,
         2 => Format::Two,
         _ => Format::Three,
+    }
+}
+
+// Whether a bridge may have a clock in files of a format.
+fn may_have_clock(format: Format) -> bool
+    ensures { result ≡ may_have_clock format }
+{
+    match format {
+        Format::Three => true,
+        _ => false,
     }
 }
 

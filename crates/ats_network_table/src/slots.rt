@@ -14,7 +14,7 @@ use std::marker::Model;
 use toml::Value;
 
 // The keys of all tables, the more frequent ones first.
-const ALL_KEYS: [Key; 30] = [
+const ALL_KEYS: [Key; 32] = [
     Key::Name,
     Key::Path,
     Key::Class,
@@ -37,6 +37,8 @@ const ALL_KEYS: [Key; 30] = [
     Key::ProcessingMaxNs,
     Key::Classes,
     Key::Paths,
+    Key::ClockPpm,
+    Key::ClockStepPs,
     Key::Format,
     Key::Station,
     Key::Bridge,
@@ -51,7 +53,7 @@ const ALL_KEYS: [Key; 30] = [
 #[derive(Drop)]
 pub(crate) struct Slots<'a> {
     members: &'a toml::Table,
-    values: [Option<&'a Value>; 30],
+    values: [Option<&'a Value>; 32],
     // Whether each member's text is that of one of all keys.
     all_named: bool,
 }
@@ -75,7 +77,7 @@ impl<'a> Slots<'a> {
     pub(crate) fn of(members: &'a toml::Table) -> Self
         ensures { result ≡ members.now.entries }
     {
-        let mut values = [None; 30];
+        let mut values = [None; 32];
         let mut all_named = true;
         'members: for (text, value) in members.iter() {
             match slot_named(text.as_str()) {
@@ -135,7 +137,7 @@ fn at<'a>(values: &[Option<&'a Value>], place: usize) -> Option<&'a Value>
 // The place of a key among all keys.
 fn slot_of(key: Key) -> usize
     ensures place { result ≡ slot_of key }
-    ensures within { result < 30 }
+    ensures within { result < 32 }
 {
     key as usize
 }
@@ -143,7 +145,7 @@ fn slot_of(key: Key) -> usize
 // The place of the key that is written so among all keys.
 fn slot_named(text: &str) -> Option<usize>
     ensures place { result ≡ position_from (λ key. bytes_eq text.now (key_text key)) 0 all_keys }
-    ensures within { IfSome result (λ i. i < 30) }
+    ensures within { IfSome result (λ i. i < 32) }
 {
     ALL_KEYS
         .iter()

@@ -103,11 +103,19 @@ fn bridge_keys(format: Format) -> &'static [Key]
 {
     match format {
         Format::One => &[Key::Name, Key::ProcessingNs, Key::ResidenceNs],
-        Format::Two | Format::Three => &[
+        Format::Two => &[
             Key::Name,
             Key::ProcessingMinNs,
             Key::ProcessingMaxNs,
             Key::ResidenceNs,
+        ],
+        Format::Three => &[
+            Key::Name,
+            Key::ProcessingMinNs,
+            Key::ProcessingMaxNs,
+            Key::ResidenceNs,
+            Key::ClockPpm,
+            Key::ClockStepPs,
         ],
     }
 }

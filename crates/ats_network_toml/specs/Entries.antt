@@ -1,7 +1,7 @@
 use Rattle.std.specs.Prelude.{List, [], ◌∷◌, map, Result, Ok, if◌then◌else◌}
 use Rattle.ats_num.specs.Failure.{◌>>=◌}
 use Rattle.ats_network_table.specs.Walk.{Entry, has, formed, name_at, short_at, short_name_at, long_at, path_at}
-use Rattle.ats_network_table.specs.Walk.{classes_at}
+use Rattle.ats_network_table.specs.Walk.{classes_at, clock_at}
 use Rattle.ats_network_table.specs.Walk.{deadline_at, has_paths, identity_at, listeners_at, paths_at}
 use Rattle.ats_network_table.specs.Words.{least_processing_key, greatest_processing_key}
 use Rattle.ats_network_table.specs.declared.key.Key.TheVariants as key
@@ -39,7 +39,16 @@ bridge_in e = do
   least ← short_at e (least_processing_key e.format)
   most ← short_at e (greatest_processing_key e.format)
   residence ← short_at e key.ResidenceNs
-  Ok (record { name = name; processing_min_ns = least; processing_max_ns = most; residence_ns = residence })
+  ppm ← clock_at e key.ClockPpm
+  step ← clock_at e key.ClockStepPs
+  Ok (record {
+    name = name;
+    processing_min_ns = least;
+    processing_max_ns = most;
+    residence_ns = residence;
+    clock_ppm = ppm;
+    clock_step_ps = step;
+  })
 
 abbrev pub link_in : Entry → Result LinkEntry DocumentFault
 link_in e = do

@@ -52,6 +52,10 @@ pub struct BridgeEntry {
     pub processing_max_ns: u32,
     /// The maximum residence time of its groups of schedulers, in nanoseconds.
     pub residence_ns: u32,
+    /// The greatest deviation of the clock of these groups, in parts in a million: its range is not judged here.
+    pub clock_ppm: u32,
+    /// The step of this clock, in picoseconds: its range is not judged here.
+    pub clock_step_ps: u32,
 }
 
 impl FromSection for BridgeEntry {
@@ -65,11 +69,15 @@ impl FromSection for BridgeEntry {
         let processing_min_ns = section.short(section.format().least_processing_key())?;
         let processing_max_ns = section.short(section.format().greatest_processing_key())?;
         let residence_ns = section.short(Key::ResidenceNs)?;
+        let clock_ppm = section.clock(Key::ClockPpm)?;
+        let clock_step_ps = section.clock(Key::ClockStepPs)?;
         Ok(BridgeEntry {
             name,
             processing_min_ns,
             processing_max_ns,
             residence_ns,
+            clock_ppm,
+            clock_step_ps,
         })
     }
 }

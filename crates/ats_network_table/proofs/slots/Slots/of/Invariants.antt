@@ -13,7 +13,7 @@ use Rattle.ats_network_table.proofs.slots.Slots.of.Given as goal
 abbrev pub invariant-members : goal.invariant-members
 invariant-members l =
     (goal.iterator-members).can_next l.text-iterator × (goal.iterator-members).is_finite l.text-iterator
-    × (length l.values ≡ 30) × ((k : Key) → has_so_far l.values (members_view l.text-iterator) k
+    × (length l.values ≡ 32) × ((k : Key) → has_so_far l.values (members_view l.text-iterator) k
     ≡ get_member (key_text k) (members_view l.members.entries))
     × (not l.all_named || has_unknown all_keys (members_view l.text-iterator)
     ≡ has_unknown all_keys (members_view l.members.entries))
