@@ -2,5 +2,6 @@
 #![tactic(auto)]
 
 pub mod printing;
+mod rates;
 
 pub use printing::show;

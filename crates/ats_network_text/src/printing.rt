@@ -1,16 +1,18 @@
 //! What is printed of a network.
 
-ghost use Rattle.std.specs.Prelude.{◌≡◌, ◌==◌, ◌++◌, ◌<◌, ◌≤◌, ℕ, length, codes, All, OnOk, IfOk};
+ghost use Rattle.std.specs.Prelude.{◌≡◌, ◌==◌, ◌++◌, ◌<◌, ◌≤◌, ℕ, length, slice_index_or, codes, All, OnOk, IfOk};
 ghost use Rattle.std.specs.List.{flat_map, enumerate_from, list_all, slice_range};
 ghost use Rattle.ats_topology.specs.Port.{port_at};
 ghost use Rattle.ats_topology.specs.Walks.{ArePorts};
 ghost use Rattle.ats_streams.specs.Branches.{first_from, leg_at, legs_of};
-ghost use Rattle.ats_streams.specs.Stream.{DeclaredStream};
 ghost use Rattle.ats_streams.specs.declared.branch.Branch.{Branch};
 ghost use Rattle.ats_streams.specs.Flow.{DeclaredFlow};
-ghost use Rattle.ats_network_text.specs.Text.{port_line, path_text, sender_line, stream_lines, flow_line, totals_line};
+ghost use Rattle.ats_network.specs.Edits.{no_stream};
+ghost use Rattle.ats_network_text.specs.Text.{port_line, path_text, sender_line, stream_lines, stream_text, flow_line};
 ghost use Rattle.ats_network_text.specs.Text.{earliest_text, classes_text, behind_commas, listener_line, show_text};
+ghost use Rattle.ats_network_text.specs.Text.{totals_line};
 
+use crate::rates::write_rates;
 use ats_network::{Network, station_of};
 use ats_port_names::write_port;
 use ats_streams::{Flow, Stream};
@@ -20,8 +22,9 @@ use std::alloc::{AllocError, Global};
 
 /// A line for each port by number, with its picoseconds per bit and its latency in picoseconds, and
 /// its earliest latency where that is another; a line for each stream, with one behind it for each of its branches, and
-/// then for each flow, with its class, or its classes joined by commas where they differ, and its ports; and a
-/// line of totals. `AllocError` where there is no memory for the text.
+/// one for its rates and bursts where clocks change them, and then a line for each flow; of a stream, a branch and a
+/// flow its class, or its classes joined by commas where they differ, and its ports; and a line of totals.
+/// `AllocError` where there is no memory for the text.
 #[tactic(auto, unfolding(crate::specs::Text::show_text))]
 pub fn show(alloc: Global, network: &Network) -> Result<Vec<u8>, AllocError>
     ensures { IfOk result (λ text. text.items ≡ show_text network.now) }
@@ -30,7 +33,7 @@ pub fn show(alloc: Global, network: &Network) -> Result<Vec<u8>, AllocError>
     let topology = network.topology();
     let (streams, flows) = (network.streams(), network.flows());
     write_ports(&mut out, topology)?;
-    write_streams(&mut out, topology, streams)?;
+    write_streams(&mut out, network)?;
     write_flows(&mut out, topology, flows)?;
     write_totals(&mut out, topology.ports().len(), streams.len(), flows.len())?;
     Ok(out)
@@ -76,18 +79,25 @@ fn write_earliest(out: &mut Vec<u8>, port: &Port) -> Result<(), AllocError>
 }
 
 // The lines of the streams.
-fn write_streams(
-    out: &mut Vec<u8>,
-    topology: &Topology,
-    streams: &[Stream],
-) -> Result<(), AllocError>
-    requires { All (λ (s : DeclaredStream). ArePorts topology.now.ports s.ports) streams.now }
-    ensures { OnOk result (out.new.items ≡ out.old.items ++ flat_map (stream_lines topology.now) streams.now) }
+fn write_streams(out: &mut Vec<u8>, network: &Network) -> Result<(), AllocError>
+    ensures { OnOk result
+        (out.new.items ≡ out.old.items ++ flat_map (stream_text network.now.topology) network.now.streams) }
 {
-    for stream in streams {
-        write_stream(out, topology, stream)?;
+    for stream in 0..network.streams().len() as u32 {
+        write_stream_text(out, network, stream)?;
     }
     Ok(())
+}
+
+// The lines of the stream with this number, and behind them that of its rates.
+fn write_stream_text(out: &mut Vec<u8>, network: &Network, stream: u32) -> Result<(), AllocError>
+    requires { stream < length network.now.streams }
+    ensures { OnOk result (out.new.items ≡ out.old.items
+        ++ stream_text network.now.topology (slice_index_or network.now.streams stream no_stream)) }
+{
+    let of = &network.streams()[stream as usize];
+    write_stream(out, network.topology(), of)?;
+    write_rates(out, network, stream)
 }
 
 // The line of a stream, and one for each of its branches.
@@ -290,7 +300,11 @@ fn write_totals(
 }
 
 // A word, and a number behind it.
-fn write_number<I: Integer + Drop>(out: &mut Vec<u8>, word: &[u8], n: I) -> Result<(), AllocError>
+pub(crate) fn write_number<I: Integer + Drop>(
+    out: &mut Vec<u8>,
+    word: &[u8],
+    n: I,
+) -> Result<(), AllocError>
     ensures { OnOk result (out.new.items ≡ out.old.items ++ (word.now ++ I.text n)) }
 {
     let mut buffer = Buffer::new();

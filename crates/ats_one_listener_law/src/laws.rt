@@ -16,7 +16,7 @@ pub fn explain_tells_one_margin()
     ensures { ExplainTellsOneMargin }
 {}
 
-/// A law: what `show` prints of it is one line, with its name, all its classes and all its ports.
+/// A law: what `show` prints of it, but for its rates, is one line, with its name, all its classes and all its ports.
 pub fn show_tells_one_line()
     ensures { ShowTellsOneLine }
 {}
