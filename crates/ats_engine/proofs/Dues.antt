@@ -7,6 +7,7 @@ use Rattle.std.specs.List.{range_with_len}
 use Rattle.std.proofs.lemmas.Bool.{cond-true, cond-false}
 use Rattle.std.proofs.lemmas.List.{append-nil, map-append}
 use Rattle.std.proofs.lemmas.List.Elements.{All-head, filter-append}
+use Rattle.std.proofs.lemmas.List.Sorted.{IsPermutation-refl}
 use Rattle.std.proofs.lemmas.Option.{same_Some}
 use Rattle.ats_facts.proofs.Lists.{all_right}
 use Rattle.ats_num.specs.declared.time.Ps.{Ps}
@@ -21,11 +22,11 @@ use Rattle.ats_trace.specs.Stored.{row_of}
 use Rattle.ats_run_records.specs.Progress.{Progress}
 use Rattle.ats_engine_steps.specs.Course.{sender_of}
 use Rattle.ats_engine_steps.specs.Entries.{eligible_moment}
-use Rattle.ats_engine_steps.specs.Steps.{begins_in, due_entries, row_begun, rows_at}
+use Rattle.ats_engine_steps.specs.Steps.{begins_in, due_entries, row_begun}
 use Rattle.ats_engine_steps.specs.declared.event.Event.{Event}
 use Rattle.ats_engine_steps.specs.declared.event.Event.TheVariants.{Eligibility}
-use Rattle.ats_engine.specs.Entering.{MayEnter, Enters}
-use Rattle.ats_engine.proofs.Joining.{may-enter-first, may-enter-next, enters-next}
+use Rattle.ats_engine.specs.Entering.{MayEnter, Enters, rows_begun}
+use Rattle.ats_engine.proofs.Joining.{may-enter-next, enters-next}
 
 -- Numbers in turn, and those of them that pass a test.
 
@@ -76,14 +77,11 @@ passing-split p k n some within passes =
     (cond-true (p k) (k ∷ filter p (range_with_len (k + 1) (n - k))) (filter p (range_with_len (k + 1) (n - k)))
     passes)
 
--- The legs to which a frame comes at a hop of a leg, up to one with a number.
+-- The legs that begin at a hop of a leg, up to one with a number.
 
-abbrev pub rows_begun : DeclaredNetwork → List ℕ → Progress → ℕ → ℕ → List ℕ
-rows_begun network firsts progress hop count =
+abbrev pub begun_to : DeclaredNetwork → List ℕ → Progress → ℕ → ℕ → List ℕ
+begun_to network firsts progress hop count =
     map (row_of firsts progress.frame) (filter (begins_in network progress hop) (range_with_len 1 count))
-
-abbrev pub rows_to : DeclaredNetwork → List ℕ → ℕ → Progress → ℕ → ℕ → List ℕ
-rows_to network firsts row progress hop count = row ∷ rows_begun network firsts progress hop count
 
 -- a sender has a leg more than branches
 pub legs-counted : (network : DeclaredNetwork) (progress : Progress) (r : Release) (legs : ℕ)
@@ -125,61 +123,58 @@ not-begun network firsts progress hop copy found is none =
         (is ∙ ap (λ (b : Bool). if b then Some (row_of firsts progress.frame copy) else None) yes_is))
 
 -- the next one begins there too
-pub rows-more : (network : DeclaredNetwork) (firsts : List ℕ) (row : ℕ) (progress : Progress) (hop copy : ℕ)
-    → 1 ≤ copy → begins_in network progress hop copy ≡ true
-    → rows_to network firsts row progress hop (copy + 1 - 1)
-    ≡ rows_to network firsts row progress hop (copy - 1) ++ row_of firsts progress.frame copy ∷ []
-rows-more network firsts row progress hop copy some begins =
+pub begun-more : (network : DeclaredNetwork) (firsts : List ℕ) (progress : Progress) (hop copy : ℕ) → 1 ≤ copy
+    → begins_in network progress hop copy ≡ true
+    → begun_to network firsts progress hop (copy + 1 - 1)
+    ≡ begun_to network firsts progress hop (copy - 1) ++ row_of firsts progress.frame copy ∷ []
+begun-more network firsts progress hop copy some begins =
     let p : ℕ → Bool = begins_in network progress hop in
     let name : ℕ → ℕ = row_of firsts progress.frame in
-    ap (λ (ns : List ℕ). row ∷ map name ns)
+    ap (λ (ns : List ℕ). map name ns)
     (passing-more p copy some
     ∙ ap (λ (ns : List ℕ). filter p (range_with_len 1 (copy - 1)) ++ ns) (one-passes p copy begins))
-    ∙ ap (λ (ns : List ℕ). row ∷ ns) (map-append name (filter p (range_with_len 1 (copy - 1))) (copy ∷ []))
+    ∙ map-append name (filter p (range_with_len 1 (copy - 1))) (copy ∷ [])
 
 -- or does not
-pub rows-same : (network : DeclaredNetwork) (firsts : List ℕ) (row : ℕ) (progress : Progress) (hop copy : ℕ)
-    → 1 ≤ copy → begins_in network progress hop copy ≡ false
-    → rows_to network firsts row progress hop (copy + 1 - 1) ≡ rows_to network firsts row progress hop (copy - 1)
-rows-same network firsts row progress hop copy some begins =
+pub begun-same : (network : DeclaredNetwork) (firsts : List ℕ) (progress : Progress) (hop copy : ℕ) → 1 ≤ copy
+    → begins_in network progress hop copy ≡ false
+    → begun_to network firsts progress hop (copy + 1 - 1) ≡ begun_to network firsts progress hop (copy - 1)
+begun-same network firsts progress hop copy some begins =
     let p : ℕ → Bool = begins_in network progress hop in
     let name : ℕ → ℕ = row_of firsts progress.frame in
-    ap (λ (ns : List ℕ). row ∷ map name ns)
+    ap (λ (ns : List ℕ). map name ns)
     (passing-more p copy some
     ∙ ap (λ (ns : List ℕ). filter p (range_with_len 1 (copy - 1)) ++ ns) (none-passes p copy begins)
     ∙ append-nil (filter p (range_with_len 1 (copy - 1))))
 
 -- those before one that begins there, it, and the others
-pub record IsSplit (network : DeclaredNetwork) (firsts : List ℕ) (row : ℕ) (progress : Progress) (hop copy : ℕ)
-    : Type 0 where
+pub record IsSplit (network : DeclaredNetwork) (firsts : List ℕ) (progress : Progress) (hop copy : ℕ) : Type 0 where
   pub others : List ℕ
-  pub all : rows_at network firsts row progress hop
-      ≡ rows_to network firsts row progress hop (copy - 1) ++ row_of firsts progress.frame copy ∷ others
+  pub all : rows_begun network firsts progress hop
+      ≡ begun_to network firsts progress hop (copy - 1) ++ row_of firsts progress.frame copy ∷ others
 
-pub rows-split : (network : DeclaredNetwork) (firsts : List ℕ) (row : ℕ) (progress : Progress) (hop copy : ℕ)
-    → 1 ≤ copy → copy ≤ length (sender_of network progress).branches → begins_in network progress hop copy ≡ true
-    → IsSplit network firsts row progress hop copy
-rows-split network firsts row progress hop copy some within begins =
+pub begun-split : (network : DeclaredNetwork) (firsts : List ℕ) (progress : Progress) (hop copy : ℕ) → 1 ≤ copy
+    → copy ≤ length (sender_of network progress).branches → begins_in network progress hop copy ≡ true
+    → IsSplit network firsts progress hop copy
+begun-split network firsts progress hop copy some within begins =
     let p : ℕ → Bool = begins_in network progress hop in
     let name : ℕ → ℕ = row_of firsts progress.frame in
     let count : ℕ = length (sender_of network progress).branches in
     let rest : List ℕ = filter p (range_with_len (copy + 1) (count - copy)) in
     record {
       others = map name rest;
-      all = ap (λ (ns : List ℕ). row ∷ map name ns) (passing-split p copy count some within begins)
-          ∙ ap (λ (ns : List ℕ). row ∷ ns)
-          (map-append name (filter p (range_with_len 1 (copy - 1))) (copy ∷ rest));
+      all = ap (λ (ns : List ℕ). map name ns) (passing-split p copy count some within begins)
+          ∙ map-append name (filter p (range_with_len 1 (copy - 1))) (copy ∷ rest);
     }
 
 -- so its row is one of all that those are
-pub row-there : (network : DeclaredNetwork) (firsts : List ℕ) (row : ℕ) (progress : Progress) (hop copy : ℕ)
-    (P : ℕ → Type 0) → 1 ≤ copy → copy ≤ length (sender_of network progress).branches
-    → begins_in network progress hop copy ≡ true → All P (rows_at network firsts row progress hop)
-    → P (row_of firsts progress.frame copy)
-row-there network firsts row progress hop copy P some within begins all =
-    let split = rows-split network firsts row progress hop copy some within begins in
+pub row-there : (network : DeclaredNetwork) (firsts : List ℕ) (progress : Progress) (hop copy : ℕ) (P : ℕ → Type 0)
+    → 1 ≤ copy → copy ≤ length (sender_of network progress).branches → begins_in network progress hop copy ≡ true
+    → All P (rows_begun network firsts progress hop) → P (row_of firsts progress.frame copy)
+row-there network firsts progress hop copy P some within begins all =
+    let split = begun-split network firsts progress hop copy some within begins in
     All-head P (row_of firsts progress.frame copy) split.others
-    (all_right P (rows_to network firsts row progress hop (copy - 1)) (row_of firsts progress.frame copy ∷ split.others)
+    (all_right P (begun_to network firsts progress hop (copy - 1)) (row_of firsts progress.frame copy ∷ split.others)
     (subst (All P) split.all all))
 
 -- The entries for legs, one of them for each.
@@ -192,15 +187,13 @@ dues-joined at rows more = map-append (λ (row : ℕ). (eligible_moment row at, 
 abbrev pub due_of : ℕ → Ps → Moment × Event
 due_of row at = (eligible_moment row at, Eligibility row)
 
--- the first of them may be put in
-pub may-enter-own : {O : Type 0} {before : O → Moment → Moment → Type 0} {agenda : Contents O Event} (at : Ps)
-    (row : ℕ) (others : List ℕ) {entry : Moment × Event} → entry ≡ due_of row at
-    → MayEnter before agenda (due_entries (Some at) (row ∷ others)) → MayEnter before agenda (entry ∷ [])
-may-enter-own {O} {before} {agenda} at row others is may =
-    subst (λ (e : Moment × Event). MayEnter before agenda (e ∷ [])) (sym is)
-    (may-enter-first (due_of row at ∷ []) (due_entries (Some at) others) may)
+-- none of them is put in at first
+pub enters-none-due : {O : Type 0} (agenda : Contents O Event) (at : Ps)
+    → Enters agenda agenda (due_entries (Some at) [])
+enters-none-due agenda at =
+    record { entries = IsPermutation-refl agenda.entries; last = refl; capacity = refl; order = refl }
 
--- and each later one, when those before it are in
+-- each may be put in, when those before it are in
 pub may-enter-due : {O : Type 0} {before : O → Moment → Moment → Type 0} {agenda next : Contents O Event} (at : Ps)
     (rows front others : List ℕ) (row : ℕ) {entry : Moment × Event} → entry ≡ due_of row at
     → rows ≡ front ++ row ∷ others → MayEnter before agenda (due_entries (Some at) rows)

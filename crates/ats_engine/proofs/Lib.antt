@@ -1,3 +1,4 @@
+pub mod AtOnce
 pub mod Coming
 pub mod Concluding
 pub mod Counting

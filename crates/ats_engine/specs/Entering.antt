@@ -1,8 +1,14 @@
-use Rattle.std.specs.Prelude.{◌≡◌, ◌≢◌, ◌≤◌, List, ◌++◌, length, All, AllPairs, IsPermutation}
+use Rattle.std.specs.Prelude.{◌≡◌, ◌≢◌, ℕ, ◌≤◌, List, ◌++◌, length, map, filter, All, AllPairs, IsPermutation}
+use Rattle.std.specs.List.{range_with_len}
 use Rattle.std.specs.Option.{ForSome}
 use Rattle.ats_events.specs.Contents.{Contents}
 use Rattle.ats_events.specs.declared.moment.Moment.{Moment}
+use Rattle.ats_network.specs.Network.{DeclaredNetwork}
+use Rattle.ats_trace.specs.Stored.{row_of}
+use Rattle.ats_run_records.specs.Progress.{Progress}
+use Rattle.ats_engine_steps.specs.Course.{sender_of}
 use Rattle.ats_engine_steps.specs.Entries.{event_of}
+use Rattle.ats_engine_steps.specs.Steps.{begins_in}
 use Rattle.ats_engine_steps.specs.declared.event.Event.{Event}
 
 -- an agenda has room for these entries, whose moments are none of its own, after the one popped last, and tell their
@@ -20,3 +26,9 @@ pub record Enters {O : Type 0} (old new : Contents O Event) (more : List (Moment
   pub last : new.last ≡ old.last
   pub capacity : new.capacity ≡ old.capacity
   pub order : new.order ≡ old.order
+
+-- the rows of the legs that begin at a hop of a leg, where the copies of each frame begin at these rows
+abbrev pub rows_begun : DeclaredNetwork → List ℕ → Progress → ℕ → List ℕ
+rows_begun network firsts progress hop =
+    map (row_of firsts progress.frame) (filter (begins_in network progress hop)
+    (range_with_len 1 (length (sender_of network progress).branches)))

@@ -1,5 +1,6 @@
 pub mod Entering
 pub mod Following
+pub mod Offering
 pub mod Opened
 pub mod Ready
 pub mod Rooms

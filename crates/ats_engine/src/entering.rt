@@ -4,8 +4,8 @@ ghost use Rattle.std.specs.Prelude.{◌<◌, ◌++◌, length, Some, All};
 ghost use Rattle.std.specs.Option.{option_to_list};
 ghost use Rattle.ats_network.specs.Network.{senders_of};
 ghost use Rattle.ats_run_records.specs.Progress.{progress_at};
-ghost use Rattle.ats_engine_steps.specs.Steps.{due_entries, rows_at};
-ghost use Rattle.ats_engine.specs.Entering.{MayEnter, Enters};
+ghost use Rattle.ats_engine_steps.specs.Steps.{due_entries};
+ghost use Rattle.ats_engine.specs.Entering.{MayEnter, Enters, rows_begun};
 ghost use Rattle.ats_engine.specs.Told.{agenda_told};
 
 use ats_engine_steps::{Event, row_begun};
@@ -24,8 +24,8 @@ pub(crate) fn enter<O: TimeOrder>(agenda: &mut Agenda<O, ()>, entry: Option<(Mom
     }
 }
 
-/// Puts into the agenda the eligibility at this time of each leg to which a frame comes at a hop of the leg of a row.
-pub(crate) fn enter_due<O: TimeOrder>(
+/// Puts into the agenda the eligibility at this time of each leg that begins at a hop of the leg of a row.
+pub(crate) fn enter_begun<O: TimeOrder>(
     agenda: &mut Agenda<O, ()>,
     net: &Network,
     records: &Records,
@@ -37,14 +37,13 @@ pub(crate) fn enter_due<O: TimeOrder>(
     requires sender { (progress_at records.now.legs row).release.sender < length (senders_of net.now) }
     requires frame { (progress_at records.now.legs row).frame < length records.now.firsts }
     requires there { All (λ n. n < length records.now.legs)
-        (rows_at net.now records.now.firsts row (progress_at records.now.legs row) hop) }
+        (rows_begun net.now records.now.firsts (progress_at records.now.legs row) hop) }
     requires entries { MayEnter O.before (agenda_told agenda.old)
-        (due_entries (Some at) (rows_at net.now records.now.firsts row (progress_at records.now.legs row) hop)) }
+        (due_entries (Some at) (rows_begun net.now records.now.firsts (progress_at records.now.legs row) hop)) }
     ensures { Enters (agenda_told agenda.old) (agenda_told agenda.new)
-        (due_entries (Some at) (rows_at net.now records.now.firsts row (progress_at records.now.legs row) hop)) }
+        (due_entries (Some at) (rows_begun net.now records.now.firsts (progress_at records.now.legs row) hop)) }
 {
     let sender = records.release(row).sender;
-    enter(agenda, Some(Event::Eligibility(row).at(at)));
     for copy in 1..net.sender_legs(sender) {
         if let Some(other) = row_begun(net, records, row, hop, copy) {
             enter(agenda, Some(Event::Eligibility(other).at(at)));

@@ -4,6 +4,7 @@
 
 pub mod engine;
 mod entering;
+mod offering;
 mod opening;
 mod rooms;
 mod runner;

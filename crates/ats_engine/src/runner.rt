@@ -9,7 +9,8 @@ ghost use Rattle.ats_engine.specs.Ready.{IsReady, IsAtEvent, Goes, Follows};
 ghost use Rattle.ats_engine.specs.Told.{told, agenda_told};
 ghost use Rattle.ats_engine.specs.Following.{follows-itself, follows-both, ready-permuted};
 
-use crate::entering::{enter, enter_both, enter_due};
+use crate::entering::{enter, enter_begun, enter_both};
+use crate::offering::offer_or_leave;
 use ats_engine_steps::{Event, State, become_eligible, come, select};
 use ats_events::{Actor, Agenda, Moment, TimeOrder};
 use ats_network::Network;
@@ -26,7 +27,7 @@ pub(crate) struct Runner<'a, T: Tie, P: Pace> {
 }
 
 impl<'a, T: Tie, P: Pace> Runner<'a, T, P> {
-    /// A frame comes to the next port of a leg.
+    /// A frame comes to the next port of a leg. Where it is eligible at once, the port is offered it at once.
     fn come<O: TimeOrder>(&mut self, now: Moment, row: u32, agenda: &mut Agenda<O, ()>)
         requires { IsAtEvent T.key P.wait O.before self.old (agenda_told agenda.old) now (Arrival row) }
         ensures { Goes T.key P.wait self.old self.new (agenda_told agenda.old) (agenda_told agenda.new) }
@@ -34,7 +35,9 @@ impl<'a, T: Tie, P: Pace> Runner<'a, T, P> {
         let hop = self.state.records.hops_of(row).len() as u32;
         let due = come(self.network, &self.schedulers, &mut self.state, now, row);
         if let Some(at) = due {
-            enter_due(agenda, self.network, &self.state.records, row, hop, at);
+            enter_begun(agenda, self.network, &self.state.records, row, hop, at);
+            let entry = offer_or_leave(self.network, &mut self.state, now, row, at);
+            enter(agenda, entry);
         }
     }
 

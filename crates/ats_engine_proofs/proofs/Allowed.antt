@@ -2,8 +2,6 @@ use Rattle.std.proofs.Common.{◌≡◌, ℕ, ◌+◌, ◌*◌, ◌<◌, ◌≤�
 use Rattle.std.proofs.Common.{All, inl, inr, arith}
 use Rattle.std.specs.Prelude.{◌≢◌, Contains}
 use Rattle.std.proofs.lemmas.Bool.{cases_lt}
-use Rattle.std.proofs.lemmas.List.Elements.{All-head}
-use Rattle.std.proofs.lemmas.Option.{same_Some}
 use Rattle.ats_num.specs.declared.time.TheConstants.{END}
 use Rattle.ats_topology.specs.Port.{port_at, no_port}
 use Rattle.ats_topology.specs.Topology.{IsPort}
@@ -31,18 +29,18 @@ use Rattle.ats_engine_steps.specs.Bounds.{horizon, all_left}
 use Rattle.ats_engine_steps.specs.Conditions.{HasRoom, IsPlaced, IsThere, MayComeNow, MayBeOffered, MaySelect}
 use Rattle.ats_engine_steps.specs.Course.{Course, arrives_from_at, crossings_so_far, eligibility_of, offer_at, path_of}
 use Rattle.ats_engine_steps.specs.Course.{place_at, sender_of, stage_at}
-use Rattle.ats_engine_steps.specs.Entries.{IsReached, eligible_moment, eligibility_by}
+use Rattle.ats_engine_steps.specs.Entries.{IsReached}
 use Rattle.ats_engine_steps.specs.Frames.{IsFrame, IsDueAt, IsUnsent, Goes}
 use Rattle.ats_engine_steps.specs.Invariant.{Holds}
 use Rattle.ats_engine_steps.specs.Paces.{IsPaced}
 use Rattle.ats_engine_steps.specs.Ports.{IsHeld, IsPortOf, IsTurn, port_state_at}
 use Rattle.ats_engine_steps.specs.Steps.{IsLegAt, class_behind, rows_next}
 use Rattle.ats_engine_steps.specs.declared.event.Event.{Event}
-use Rattle.ats_engine_steps.specs.declared.event.Event.TheVariants.{Arrival, Eligibility, Selection}
+use Rattle.ats_engine_steps.specs.declared.event.Event.TheVariants.{Arrival, Selection}
 use Rattle.ats_engine_steps.specs.declared.stage.Stage.{Stage}
 use Rattle.ats_engine_steps.specs.declared.stage.Stage.TheVariants.{Coming, Due, Waiting, Over}
 use Rattle.ats_engine_steps.specs.declared.turn.Turn.TheVariants.{Resting, Selecting}
-use Rattle.ats_engine_proofs.specs.Next.{IsNext}
+use Rattle.ats_engine_proofs.specs.Next.{IsEligibleNow, IsNext}
 use Rattle.ats_engine_proofs.proofs.Begun.{IsApart, next-or-apart}
 use Rattle.ats_engine_proofs.proofs.Crossed.{crossed-ended}
 use Rattle.ats_engine_proofs.proofs.Lasting.{held-most}
@@ -54,7 +52,7 @@ use Rattle.ats_engine_proofs.proofs.Placed.{IsStanding, standing-place, standing
 use Rattle.ats_engine_proofs.proofs.Placed.{in_order_from-le, stands-at_most}
 use Rattle.ats_engine_proofs.proofs.Rows.{firsts-are, frames-all, named-one, next-apart, place-names}
 use Rattle.ats_engine_proofs.proofs.Rows.{port-one, release-one, row-is}
-use Rattle.ats_engine_proofs.proofs.Stages.{next-moment, next-coming, next-due, next-selecting}
+use Rattle.ats_engine_proofs.proofs.Stages.{next-coming, next-due, next-selecting}
 use Rattle.ats_engine_proofs.proofs.Stages.{stage-within}
 use Rattle.ats_engine_proofs.proofs.Stages.{turn-within}
 use Rattle.ats_engine_proofs.proofs.Ways.{stands-some}
@@ -201,16 +199,12 @@ held-there {T} {key} {wait} {network} {releases} {course} {entries} {port} {o} h
     })
 
 -- a port has started no transmission at the time of an event before selections
-later-start : {T : Type 0} {key : T → ℕ → ℕ → ℕ} {wait : ℕ → ℕ → ℕ} {network : DeclaredNetwork}
-    {releases : List Release} {course : Course T} {now : Moment} {event : Event} {entries : List (Moment × Event)}
-    (port : ℕ) → IsNext key wait network releases course now event entries → now.phase < SELECTION
-    → IsPortOf key network course port (port_state_at course port)
-    → 0 < length (port_state_at course port).sent → last_start (port_state_at course port).sent < now.at.0
-later-start {T} {key} {wait} {network} {releases} {course} {now} {event} {entries} port next before kept some =
+later-start : {T : Type 0} {key : T → ℕ → ℕ → ℕ} {network : DeclaredNetwork} {course : Course T} {now : Moment}
+    (port : ℕ) → IsReached course.last now → now.phase < SELECTION
+    → IsPortOf key network course port (port_state_at course port) → 0 < length (port_state_at course port).sent
+    → last_start (port_state_at course port).sent < now.at.0
+later-start {T} {key} {network} {course} {now} port reached before kept some =
     let start : ℕ = last_start (port_state_at course port).sent in
-    let reached : IsReached course.last now =
-    All-head (λ (entry : Moment × Event). IsReached course.last entry.0) (now, event) entries
-    next.holds.awaited.reached in
     let started : start ≤ course.last.at.0 = kept.times.started some in
     elim (cases_lt start now.at.0) as (λ _. start < now.at.0) [
       | inl less ↦ less
@@ -220,10 +214,10 @@ later-start {T} {key} {wait} {network} {releases} {course} {now} {event} {entrie
           omega (arith, kept.times.selected some same, reached.phase now_too))
     ]
 
--- the port of a frame that becomes eligible next may be offered it
+-- the port of a frame that becomes eligible now may be offered it
 pub may-be-offered : {T : Type 0} {key : T → ℕ → ℕ → ℕ} {wait : ℕ → ℕ → ℕ} {network : DeclaredNetwork}
     {releases : List Release} {course : Course T} {now : Moment} {row : ℕ} {entries : List (Moment × Event)}
-    → IsNext key wait network releases course now (Eligibility row) entries
+    → IsEligibleNow key wait network releases course now row entries
     → MayBeOffered network course now.at.0 row
 may-be-offered {T} {key} {wait} {network} {releases} {course} {now} {row} {entries} next =
     let stage : Stage = Due now.at in
@@ -252,9 +246,6 @@ may-be-offered {T} {key} {wait} {network} {releases} {course} {now} {row} {entri
     cc) in
     let not_sent : All (λ (x : Sent). x.frame ≢ progress.frame) standing.sent =
     not-sent-here row next.holds.rules next.holds.shape kept refl at.within (λ hop due. due.sent) here in
-    let moment : eligible_moment row now.at ≡ now =
-    same_Some (eligible_moment row now.at) now (sym (ap (eligibility_by row) (next-due next)) ∙ next-moment next) in
-    let phase : now.phase < SELECTION = omega (arith, ap {B = ℕ} (λ (m : Moment). m.phase) moment) in
     let eligible : (offer_at network course row).eligible.0 ≡ now.at.0 =
     ap (λ (v : Verdict). (eligibility_of v).0) (standing-last here).verdict in
     record {
@@ -270,7 +261,7 @@ may-be-offered {T} {key} {wait} {network} {releases} {course} {now} {row} {entri
           here not_held not_sent few;
       octets = at.is.octets;
       later = λ some. (
-          let less = later-start place next phase kept some in
+          let less = later-start place next.reached next.before kept some in
           omega (arith, less, eligible));
     }
 

@@ -1,4 +1,4 @@
-use Rattle.std.proofs.Common.{◌≡◌, ℕ, ◌<◌, List, length, ap, ◌∙◌}
+use Rattle.std.proofs.Common.{◌≡◌, ℕ, length, ap, ◌∙◌}
 use Rattle.std.proofs.Common.{sym, subst, inl, inr}
 use Rattle.std.specs.Prelude.{◌≢◌, ◌==◌}
 use Rattle.std.proofs.lemmas.Bool.{cases_Bool, cond-true, cond-false}
@@ -6,17 +6,12 @@ use Rattle.ats_num.specs.declared.time.Ps.{Ps}
 use Rattle.ats_group.specs.declared.verdict.Verdict.{Verdict}
 use Rattle.ats_group.specs.declared.verdict.Verdict.TheVariants.{Eligible, Late, Size}
 use Rattle.ats_network.specs.Network.{DeclaredNetwork}
-use Rattle.ats_events.specs.declared.moment.Moment.{Moment}
-use Rattle.ats_trace.specs.declared.journey.Release.{Release}
 use Rattle.ats_run_records.specs.Progress.{Progress}
 use Rattle.ats_engine_steps.specs.Course.{Course, path_of, stage_at, place_at}
 use Rattle.ats_engine_steps.specs.Steps.{Move, leaves_for, stage_by}
-use Rattle.ats_engine_steps.specs.declared.event.Event.{Event}
 use Rattle.ats_engine_steps.specs.declared.stage.Stage.{Stage}
 use Rattle.ats_engine_steps.specs.declared.stage.Stage.TheVariants.{Apart, Coming, Due, Waiting, Over}
-use Rattle.ats_engine_proofs.specs.Next.{IsNext}
 use Rattle.ats_engine_proofs.proofs.PortKept.{IsAway}
-use Rattle.ats_engine_proofs.proofs.Stages.{stage-within}
 
 -- a frame at this stage of a leg is held by no port of it
 abbrev pub IsBetween : Stage → Type 0
@@ -36,23 +31,11 @@ pub placed-away : {T : Type 0} (network : DeclaredNetwork) (course : Course T) (
     → place_at network course row ≡ port → other ≢ port → IsAway network course other row
 placed-away network course port other row place apart e at = apart (sym at ∙ place)
 
--- a leg at a stage that is not the last has a row
-pub row-within : {T : Type 0} {key : T → ℕ → ℕ → ℕ} {wait : ℕ → ℕ → ℕ} {network : DeclaredNetwork}
-    {releases : List Release} {course : Course T} {now : Moment} {event : Event} {entries : List (Moment × Event)}
-    → IsNext key wait network releases course now event entries → (row : ℕ) (stage : Stage)
-    → stage_at course row ≡ stage → stage ≢ Over → row < length course.records
-row-within {T} {key} {wait} {network} {releases} {course} next row stage is other =
-    stage-within course row stage next.holds.shape.stages is other
-
 -- along a leg to which a frame comes it is held by no port then
 pub stage-between : (v : Verdict) → IsBetween (stage_by v)
 stage-between (Eligible e) = tt
 stage-between (Late e) = tt
 stage-between Size = tt
-
--- a frame that is due is not over
-pub due-over : (at : Ps) → Due at ≢ Over
-due-over at e = cc
 
 -- a frame that was sent keeps its release
 pub leaves-release : (network : DeclaredNetwork) (row : ℕ) (p : Progress) (at : Ps)

@@ -18,7 +18,7 @@ use Rattle.ats_transmit.specs.Sending.{transmissions}
 use Rattle.ats_transmit.specs.State.{PortState}
 use Rattle.ats_transmit.specs.declared.offer.Offer.{Offer}
 use Rattle.ats_events.specs.declared.moment.Moment.{Moment}
-use Rattle.ats_trace.specs.Eligibility.{IsJudged, IsPassed, residence_of_groups}
+use Rattle.ats_trace.specs.Eligibility.{IsJudged, IsPassed}
 use Rattle.ats_trace.specs.Journey.{Leg, Travel, IsJourney}
 use Rattle.ats_trace.specs.Projections.{Handed, sent_by, crossings_by, handed_by}
 use Rattle.ats_trace.specs.Run.{IsRunBy, HasReleases}
@@ -164,7 +164,7 @@ port-tie {T} {key} {network} {releases} {course} port standing shape is =
 -- the group behind a port for a class has judged what came to it
 group-judged : {T : Type 0} (network : DeclaredNetwork) (releases : List Release) (course : Course T)
     (port class : ℕ) → IsShaped network releases course → IsGroupOf network course port class
-    → IsJudged ats_judge network (residence_of_groups network port) (handed_by network (travels course) port class)
+    → IsJudged ats_judge network port (handed_by network (travels course) port class)
 group-judged network releases course port class shape is =
     let so_far : List Handed = handed_so_far network course port class in
     let told : List Handed = handed_by network (travels course) port class in
@@ -177,11 +177,11 @@ group-judged network releases course port class shape is =
     }
 
 -- also where nothing came
-none-judged : (network : DeclaredNetwork) (residence : ℕ) (handed : List Handed) → handed ≡ []
-    → IsJudged ats_judge network residence handed
-none-judged network residence handed none =
+none-judged : (network : DeclaredNetwork) (port : ℕ) (handed : List Handed) → handed ≡ []
+    → IsJudged ats_judge network port handed
+none-judged network port handed none =
     let nothing : List Handed = [] in
-    subst (IsJudged ats_judge network residence) (sym none) (record {
+    subst (IsJudged ats_judge network port) (sym none) (record {
       arrivals = [];
       same = IsPermutation-refl nothing;
       in_order = λ i j d less h. absurd (omega arith);
@@ -193,13 +193,13 @@ all-judged : {T : Type 0} {key : T → ℕ → ℕ → ℕ} {wait : ℕ → ℕ 
     {releases : List Release} {course : Course T} {entries : List (Moment × Event)}
     → Holds key wait network releases course entries → All (IsKnown network) (travels course) → (port class : ℕ)
     → port < length network.topology.ports → 1 ≤ class
-    → IsJudged ats_judge network (residence_of_groups network port) (handed_by network (travels course) port class)
+    → IsJudged ats_judge network port (handed_by network (travels course) port class)
 all-judged {T} {key} {wait} {network} {releases} {course} holds known port class within least =
-    elim (cases_lt class 8) as (λ _. IsJudged ats_judge network (residence_of_groups network port)
+    elim (cases_lt class 8) as (λ _. IsJudged ats_judge network port
     (handed_by network (travels course) port class)) [
       | inl low ↦ group-judged network releases course port class holds.shape
           (holds.groups port class within least (omega arith))
-      | inr high ↦ none-judged network (residence_of_groups network port)
+      | inr high ↦ none-judged network port
           (handed_by network (travels course) port class)
           (none-above network (travels course) port class holds.rules known high)
     ]

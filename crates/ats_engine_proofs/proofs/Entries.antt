@@ -20,7 +20,7 @@ use Rattle.ats_transmit.specs.State.{PortState}
 use Rattle.ats_run_records.specs.Progress.{Progress, progress_at, with_ending, with_sent}
 use Rattle.ats_trace.specs.declared.journey.Ending.TheVariants.{Sink}
 use Rattle.ats_events.specs.declared.moment.Moment.{Moment}
-use Rattle.ats_events.specs.declared.phase.TheConstants.{ARRIVAL, ELIGIBLE}
+use Rattle.ats_events.specs.declared.phase.TheConstants.{ARRIVAL, SELECTION}
 use Rattle.ats_events.specs.Order.{IsInRange, IsIrreflexive, IsTransitive, IsTimed}
 use Rattle.ats_trace.specs.declared.journey.Release.{Release}
 use Rattle.ats_trace.specs.declared.run.TheConstants.{MAX_HOPS}
@@ -41,7 +41,7 @@ use Rattle.ats_engine_steps.specs.declared.stage.Stage.{Stage}
 use Rattle.ats_engine_steps.specs.declared.stage.Stage.TheVariants.{Apart, Coming, Due, Waiting, Over}
 use Rattle.ats_engine_steps.specs.declared.turn.Turn.{Turn}
 use Rattle.ats_engine_steps.specs.declared.turn.Turn.TheVariants.{Resting, Selecting}
-use Rattle.ats_engine_proofs.specs.Next.{IsNext, IsAfter}
+use Rattle.ats_engine_proofs.specs.Next.{IsEligibleNow, IsNext, IsAfter}
 use Rattle.ats_engine_proofs.proofs.Allowed.{may-come}
 use Rattle.ats_engine_proofs.proofs.Awaited.{Brings}
 use Rattle.ats_engine_proofs.proofs.Begun.{next-or-apart}
@@ -61,7 +61,7 @@ use Rattle.ats_engine_proofs.proofs.Verdicts.{IsSoon, soon_now}
 use Rattle.ats_engine_proofs.proofs.Events.{phase_of, number_of, IsOf, is-of, same-event, is-within, place_by}
 use Rattle.ats_engine_proofs.proofs.Events.{place-below}
 use Rattle.ats_engine_proofs.proofs.Events.{event_at, at-place, number-below, phase-below}
-use Rattle.ats_engine_proofs.proofs.Follow.{awaited-by, next-of, eligibility-here, selection-here}
+use Rattle.ats_engine_proofs.proofs.Follow.{awaited-at, awaited-by, next-of, eligibility-here, selection-here}
 use Rattle.ats_engine_proofs.proofs.Follow.{set-here, set-elsewhere, turned-here, turned-elsewhere, row-within}
 
 -- a move that is the same as one that brings the entry of its stage does so too
@@ -178,7 +178,7 @@ row-at {T} {key} {wait} {network} {releases} {course} row s holds was other =
     (holds.frames row (stage-within course row s holds.shape.stages was other))
 
 -- a selection that a frame brings which becomes eligible is later
-offered-later : (now : Moment) (port : ℕ) (at : Ps) (t : Turn) → now.phase ≡ ELIGIBLE
+offered-later : (now : Moment) (port : ℕ) (at : Ps) (t : Turn) → now.phase < SELECTION
     → (t ≡ Resting → now.at.0 ≤ at.0)
     → All (λ (x : Moment × Event). IsAfter now x.0) (selections_once_offered port t at)
 offered-later now port at Resting is later =
@@ -189,11 +189,11 @@ offered-later now port at (Selecting time) is later = All-nil (λ (x : Moment ×
 -- what a frame that becomes eligible brings is later
 pub offered-after : {T : Type 0} {key : T → ℕ → ℕ → ℕ} {wait : ℕ → ℕ → ℕ} {network : DeclaredNetwork}
     {releases : List Release} {old new : Course T} {now : Moment} {row : ℕ} {entries more : List (Moment × Event)}
-    → IsNext key wait network releases old now (Eligibility row) entries
+    → IsEligibleNow key wait network releases old now row entries
     → BecomesEligible key network old new now row more → All (λ (entry : Moment × Event). IsAfter now entry.0) more
 offered-after {T} {key} {wait} {network} {releases} {old} {new} {now} {row} {entries} {more} next step =
     subst (λ (es : List (Moment × Event)). All (λ (x : Moment × Event). IsAfter now x.0) es) (sym step.brings)
-    (offered-later now step.port step.at (turn_at old step.port) (next-of next).phase
+    (offered-later now step.port step.at (turn_at old step.port) next.before
     (λ rests. omega (arith, offered-at next step rests)))
 
 -- what a frame that becomes eligible brings, by what its port does next
@@ -210,7 +210,7 @@ offered-brings old new now row port at (Selecting time) steps was becomes =
 -- the events that are to happen after a frame became eligible
 pub offered-awaited : {T : Type 0} {key : T → ℕ → ℕ → ℕ} {wait : ℕ → ℕ → ℕ} {network : DeclaredNetwork}
     {releases : List Release} {old new : Course T} {now : Moment} {row : ℕ} {entries more : List (Moment × Event)}
-    → IsNext key wait network releases old now (Eligibility row) entries
+    → IsEligibleNow key wait network releases old now row entries
     → BecomesEligible key network old new now row more → AreAwaited new (more ++ entries)
 offered-awaited {T} {key} {wait} {network} {releases} {old} {new} {now} {row} {entries} {more} next step =
     let was : stage_at old row ≡ Due now.at = next-due next in
@@ -230,7 +230,8 @@ offered-awaited {T} {key} {wait} {network} {releases} {old} {new} {now} {row} {e
       arrival = λ m is. absurd (none-some m is);
       eligibility = λ m is. refl;
     } in
-    awaited-by new more next (ap (λ (c : Course T). c.last) step.becomes)
+    awaited-at (eligible_moment row now.at) new more next.holds.awaited next.first
+    (ap (λ (c : Course T). c.last) step.becomes)
     (subst (Brings (moment_of old) (moment_of new) (Eligibility row)) (sym step.brings)
     (offered-brings old new now row step.port step.at (turn_at old step.port) steps refl
     (turned-here new old.turns step.port turn (omega (arith, next.holds.shape.turns, step.place)) turned)))

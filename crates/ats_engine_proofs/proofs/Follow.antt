@@ -1,5 +1,6 @@
 -- What follows the next event.
-use Rattle.std.proofs.Common.{◌≡◌, ℕ, ◌<◌, List, ◌++◌, length, get_or, set, All, sym, ap, ◌∙◌, subst, inl, inr, arith}
+use Rattle.std.proofs.Common.{◌≡◌, ℕ, ◌<◌, List, ◌∷◌, ◌++◌, length, get_or, set, All, sym, ap, ◌∙◌, subst}
+use Rattle.std.proofs.Common.{inl, inr, arith}
 use Rattle.std.specs.Prelude.{◌≢◌, slice_index_or}
 use Rattle.std.proofs.lemmas.Bool.{cases_lt}
 use Rattle.std.proofs.lemmas.List.{get_or-set_same, get_or-set_other, get_or_past}
@@ -22,21 +23,30 @@ use Rattle.ats_engine_proofs.proofs.Stages.{next-moment}
 use Rattle.ats_engine_proofs.proofs.Events.{IsOf, is-of}
 
 -- a moment that is before another one by time and phase is not after it
-reached-after : (now next : Moment) → IsAfter now next → IsReached now next
+pub reached-after : (now next : Moment) → IsAfter now next → IsReached now next
 reached-after now next after = record { time = after.time; phase = λ same. (let h = after.phase same in omega arith) }
 
--- the events that are to happen after a step, by the entries that it brings
+-- the events that are to happen after a step, by the entries that it brings, and that of what has happened
+pub awaited-at : {T : Type 0} {old : Course T} {now : Moment} {event : Event} {entries : List (Moment × Event)}
+    (own : Moment) (new : Course T) (more : List (Moment × Event)) → AreAwaited old ((own, event) ∷ entries)
+    → All (λ (entry : Moment × Event). IsReached now entry.0) entries → new.last ≡ now
+    → Brings (moment_of old) (moment_of new) event more
+    → All (λ (entry : Moment × Event). IsAfter now entry.0) more → AreAwaited new (more ++ entries)
+awaited-at {T} {old} {now} {event} {entries} own new more awaited first last brings after =
+    let Reached : Moment → Moment × Event → Type 0 = λ (m : Moment) (x : Moment × Event). IsReached m x.0 in
+    awaited-after old new own event entries more awaited brings
+    (subst (λ (m : Moment). All (Reached m) (more ++ entries)) (sym last)
+    (All-append (Reached now) more entries
+    (λ k d h. reached-after now (slice_index_or more k d).0 (after k d h)) first))
+
+-- which is that of the next event
 pub awaited-by : {T : Type 0} {key : T → ℕ → ℕ → ℕ} {wait : ℕ → ℕ → ℕ} {network : DeclaredNetwork}
     {releases : List Release} {old : Course T} {now : Moment} {event : Event} {entries : List (Moment × Event)}
     (new : Course T) (more : List (Moment × Event)) → IsNext key wait network releases old now event entries
     → new.last ≡ now → Brings (moment_of old) (moment_of new) event more
     → All (λ (entry : Moment × Event). IsAfter now entry.0) more → AreAwaited new (more ++ entries)
 awaited-by {T} {key} {wait} {network} {releases} {old} {now} {event} {entries} new more next last brings after =
-    let Reached : Moment → Moment × Event → Type 0 = λ (m : Moment) (x : Moment × Event). IsReached m x.0 in
-    awaited-after old new now event entries more next.holds.awaited brings
-    (subst (λ (m : Moment). All (Reached m) (more ++ entries)) (sym last)
-    (All-append (Reached now) more entries
-    (λ k d h. reached-after now (slice_index_or more k d).0 (after k d h)) next.first))
+    awaited-at now new more next.holds.awaited next.first last brings after
 
 -- the phase of the next event
 pub next-of : {T : Type 0} {key : T → ℕ → ℕ → ℕ} {wait : ℕ → ℕ → ℕ} {network : DeclaredNetwork}

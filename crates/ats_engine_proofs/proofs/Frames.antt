@@ -26,10 +26,10 @@ use Rattle.ats_engine_steps.specs.Invariant.{IsShaped, opened_again}
 use Rattle.ats_engine_steps.specs.Steps.{Move, came, stage_by, judged_by, class_behind, leaves_for, Comes}
 use Rattle.ats_engine_steps.specs.Steps.{BecomesEligible, Selects, rows_next, set_each}
 use Rattle.ats_engine_steps.specs.declared.event.Event.{Event}
-use Rattle.ats_engine_steps.specs.declared.event.Event.TheVariants.{Arrival, Eligibility, Selection}
+use Rattle.ats_engine_steps.specs.declared.event.Event.TheVariants.{Arrival, Selection}
 use Rattle.ats_engine_steps.specs.declared.stage.Stage.{Stage}
 use Rattle.ats_engine_steps.specs.declared.stage.Stage.TheVariants.{Apart, Coming, Due, Waiting, Over}
-use Rattle.ats_engine_proofs.specs.Next.{IsNext}
+use Rattle.ats_engine_proofs.specs.Next.{IsEligibleNow, IsNext}
 use Rattle.ats_engine_proofs.proofs.Begun.{IsApart, begun-apart}
 use Rattle.ats_engine_proofs.proofs.Travels.{selects-stage}
 use Rattle.ats_engine_proofs.proofs.LegPorts.{leg-some}
@@ -365,7 +365,7 @@ comes-frames {T} {key} {wait} {network} {releases} {old} {new} {now} {row} next 
 -- a leg along which a frame becomes eligible is the one that moves
 offered-moved : {T : Type 0} {key : T → ℕ → ℕ → ℕ} {wait : ℕ → ℕ → ℕ} {network : DeclaredNetwork}
     {releases : List Release} {old new : Course T} {now : Moment} {row : ℕ} {entries more : List (Moment × Event)}
-    → IsNext key wait network releases old now (Eligibility row) entries
+    → IsEligibleNow key wait network releases old now row entries
     → BecomesEligible key network old new now row more
     → IsMoved old new row Waiting (progress_at old.records row)
 offered-moved {T} {key} {wait} {network} {releases} {old} {new} {now} {row} next step = record {
@@ -383,7 +383,7 @@ offered-moved {T} {key} {wait} {network} {releases} {old} {new} {now} {row} next
 -- once a frame is eligible the lists fit as before
 pub offered-shape : {T : Type 0} {key : T → ℕ → ℕ → ℕ} {wait : ℕ → ℕ → ℕ} {network : DeclaredNetwork}
     {releases : List Release} {old new : Course T} {now : Moment} {row : ℕ} {entries more : List (Moment × Event)}
-    → IsNext key wait network releases old now (Eligibility row) entries
+    → IsEligibleNow key wait network releases old now row entries
     → BecomesEligible key network old new now row more → IsShaped network releases new
 offered-shape {T} {key} {wait} {network} {releases} {old} {new} {now} {row} next step =
     moved-shape network releases old new row Waiting (progress_at old.records row) next.holds.shape
@@ -411,7 +411,7 @@ due-waits network course progress at is = record {
 -- and each row is as far as its stage says
 pub offered-frames : {T : Type 0} {key : T → ℕ → ℕ → ℕ} {wait : ℕ → ℕ → ℕ} {network : DeclaredNetwork}
     {releases : List Release} {old new : Course T} {now : Moment} {row : ℕ} {entries more : List (Moment × Event)}
-    → IsNext key wait network releases old now (Eligibility row) entries
+    → IsEligibleNow key wait network releases old now row entries
     → BecomesEligible key network old new now row more → (n : ℕ) → n < length new.records
     → IsFrame network new (progress_at new.records n) (stage_at new n)
 offered-frames {T} {key} {wait} {network} {releases} {old} {new} {now} {row} next step =

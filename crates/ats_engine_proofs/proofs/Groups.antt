@@ -22,7 +22,7 @@ use Rattle.ats_group.specs.declared.verdict.Verdict.TheVariants.{Eligible, Size}
 use Rattle.ats_group.proofs.StepLemmas.{the_rest}
 use Rattle.ats_schedulers.specs.Schedulers.{scheduler_of}
 use Rattle.ats_events.specs.declared.moment.Moment.{Moment}
-use Rattle.ats_trace.specs.Eligibility.{IsPassed, declared_by, offer_of, residence_of_groups}
+use Rattle.ats_trace.specs.Eligibility.{IsPassed, declared_by, offer_of, residence_of_groups, scheduled_by}
 use Rattle.ats_trace.specs.Projections.{Handed}
 use Rattle.ats_trace.specs.declared.journey.Release.{Release}
 use Rattle.ats_run_records.specs.Progress.{Progress, progress_at}
@@ -31,8 +31,8 @@ use Rattle.ats_engine_steps.specs.Judging.{AreGroupsOf, IsStateOf, IsGroupOf, Ar
 use Rattle.ats_engine_steps.specs.Steps.{Comes, BecomesEligible, Selects, class_behind, verdict_now, groups_now}
 use Rattle.ats_engine_steps.specs.Steps.{scheduler_before}
 use Rattle.ats_engine_steps.specs.declared.event.Event.{Event}
-use Rattle.ats_engine_steps.specs.declared.event.Event.TheVariants.{Arrival, Eligibility, Selection}
-use Rattle.ats_engine_proofs.specs.Next.{IsNext, IsArrival}
+use Rattle.ats_engine_steps.specs.declared.event.Event.TheVariants.{Arrival, Selection}
+use Rattle.ats_engine_proofs.specs.Next.{IsEligibleNow, IsNext, IsArrival}
 use Rattle.ats_engine_proofs.proofs.Allowed.{may-come}
 use Rattle.ats_engine_proofs.proofs.Judged.{IsScheduler, verdict-is, state-own, state-other, verdicts-more, state-more}
 use Rattle.ats_engine_proofs.proofs.Now.{next-reached}
@@ -163,7 +163,7 @@ own_group : {T : Type 0} (network : DeclaredNetwork) (old new : Course T) (now :
     → new.groups ≡ value_after old.groups (scheduler_of network stream leg hop) now.at.0 octets
     → new.last ≡ now → old.last.at.0 ≤ now.at.0 → IsGroupOf network old port class → IsGroupOf network new port class
 own_group {T} network old new now stream leg hop port class octets h rules are below told moved becomes last later is =
-    let declared : ℕ → Declared = declared_by network in
+    let declared : ℕ → Declared = scheduled_by network port in
     let residence : ℕ = residence_of_groups network port in
     let offers : List Offer = map offer_of is.arrivals in
     let state : State = state_after declared residence (first declared) offers in
@@ -424,7 +424,7 @@ comes-flows {T} {key} {wait} {network} {releases} {old} {new} {now} {row} {entri
 -- all this holds after a row became eligible, since it changes neither groups nor arrivals
 pub offered-members : {T : Type 0} {key : T → ℕ → ℕ → ℕ} {wait : ℕ → ℕ → ℕ} {network : DeclaredNetwork}
     {releases : List Release} {old new : Course T} {now : Moment} {row : ℕ} {entries more : List (Moment × Event)}
-    → IsNext key wait network releases old now (Eligibility row) entries
+    → IsEligibleNow key wait network releases old now row entries
     → BecomesEligible key network old new now row more → AreGroupsOf network new.groups
 offered-members {T} {key} {wait} {network} next step =
     subst (AreGroupsOf network) (sym (ap (λ (c : Course T). c.groups) step.becomes)) next.holds.members
@@ -432,7 +432,7 @@ offered-members {T} {key} {wait} {network} next step =
 -- each group has judged what arrived
 pub offered-groups : {T : Type 0} {key : T → ℕ → ℕ → ℕ} {wait : ℕ → ℕ → ℕ} {network : DeclaredNetwork}
     {releases : List Release} {old new : Course T} {now : Moment} {row : ℕ} {entries more : List (Moment × Event)}
-    → IsNext key wait network releases old now (Eligibility row) entries
+    → IsEligibleNow key wait network releases old now row entries
     → BecomesEligible key network old new now row more → (other class : ℕ) → other < length network.topology.ports
     → 1 ≤ class → class ≤ 7 → IsGroupOf network new other class
 offered-groups {T} {key} {wait} {network} {releases} {old} {new} {now} next step other class below least most =
@@ -440,13 +440,13 @@ offered-groups {T} {key} {wait} {network} {releases} {old} {new} {now} next step
     (offered-handed next step other class)
     (λ state is. subst (λ (g : GroupsState). IsStateOf network g other class state)
     (sym (ap (λ (c : Course T). c.groups) step.becomes)) is)
-    (ap (λ (c : Course T). c.last) step.becomes) (next-reached next).time
+    (ap (λ (c : Course T). c.last) step.becomes) next.reached.time
     (next.holds.groups other class below least most)
 
 -- and flows' frames were passed
 pub offered-flows : {T : Type 0} {key : T → ℕ → ℕ → ℕ} {wait : ℕ → ℕ → ℕ} {network : DeclaredNetwork}
     {releases : List Release} {old new : Course T} {now : Moment} {row : ℕ} {entries more : List (Moment × Event)}
-    → IsNext key wait network releases old now (Eligibility row) entries
+    → IsEligibleNow key wait network releases old now row entries
     → BecomesEligible key network old new now row more → (other : ℕ) → other < length network.topology.ports
     → ArePassed network new other
 offered-flows {T} {key} {wait} {network} next step other below =

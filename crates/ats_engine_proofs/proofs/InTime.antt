@@ -26,7 +26,7 @@ use Rattle.ats_trace.specs.Journey.{BeginsAs, IsCopy, IsJourney, IsReleased, IsS
 use Rattle.ats_trace.specs.Projections.{Hop, Crossing, transmission_by, transmission_of, hop_at, hops_along}
 use Rattle.ats_trace.specs.Projections.{crossing_at, crossings_along, crossings_by, crossings_from, hops_from}
 use Rattle.ats_trace.specs.Projections.{journey_crossings, journey_hops, sent_by}
-use Rattle.ats_trace.specs.Run.{IsLegal}
+use Rattle.ats_trace.specs.Run.{IsIdeal}
 use Rattle.ats_trace.specs.declared.journey.Ending.{Ending}
 use Rattle.ats_trace.specs.declared.journey.Ending.TheVariants.{Sink, Discard}
 use Rattle.ats_trace.specs.HopRecord.{HopRecord}
@@ -331,7 +331,7 @@ each-crossed {T} {key} {wait} {network} {releases} {course} {entries} holds =
 -- where it is legal, each of its moments was before it
 run-done : {T : Type 0} {key : T → ℕ → ℕ → ℕ} {wait : ℕ → ℕ → ℕ} {network : DeclaredNetwork}
     {releases : List Release} {course : Course T} {entries : List (Moment × Event)}
-    → Holds key wait network releases course entries → IsLegal network (travels course)
+    → Holds key wait network releases course entries → IsIdeal network (travels course)
     → All (IsJourneyDoneBefore after_all) (travels course)
 run-done {T} {key} {wait} {network} {releases} {course} holds legal =
     run-before network after_all 0 (travels course) holds.rules legal.journeys
@@ -343,7 +343,7 @@ pub ended-in-time : {T : Type 0} {key : T → ℕ → ℕ → ℕ} {wait : ℕ �
     → IsRunInTime (finished (ledger_in course))
 ended-in-time {T} {key} {wait} {network} {releases} {course} holds =
     let same : travels course ≡ finished (ledger_in course) = run-finished holds in
-    let legal : IsLegal network (travels course) =
-    subst (IsLegal network) (sym same) (ended-run holds).0.legal in
+    let legal : IsIdeal network (travels course) =
+    subst (IsIdeal network) (sym same) (ended-run holds).0.legal in
     subst IsRunInTime same
     (in-time-with-late network (travels course) holds.rules legal (run-done holds legal))

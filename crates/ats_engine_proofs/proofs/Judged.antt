@@ -21,7 +21,7 @@ use Rattle.ats_group.specs.declared.verdict.Verdict.TheVariants.{Eligible, Late,
 use Rattle.ats_schedulers.specs.Schedulers as schedulers
 use Rattle.ats_schedulers.specs.Schedulers.{IsHop, group_behind, leg_ports, member_behind, residences_of, scheduler_of}
 use Rattle.ats_schedulers.proofs.Places.{scheduler_within, scheduler_there, schedulers_are_apart}
-use Rattle.ats_trace.specs.Eligibility.{declared_by, residence_of_groups}
+use Rattle.ats_trace.specs.Eligibility.{residence_of_groups, scheduled_by}
 use Rattle.ats_engine_steps.specs.Judging.{AreGroupsOf, IsStateOf}
 use Rattle.ats_engine_proofs.proofs.LegPorts.{hop-one, leg-one}
 
@@ -70,11 +70,12 @@ pub record IsScheduler (network : DeclaredNetwork) (stream leg hop port class : 
 -- its member, by its place
 pub member-is : (network : DeclaredNetwork) (groups : GroupsState) (stream leg hop port class : ℕ)
     → AreGroupsOf network groups → IsScheduler network stream leg hop port class
-    → member_at groups.members (scheduler_of network stream leg hop) ≡ member_behind (sender_at network stream) port
+    → member_at groups.members (scheduler_of network stream leg hop)
+    ≡ member_behind network.topology (sender_at network stream) port
 member-is network groups stream leg hop port class are is =
     ap (λ (ms : List Member). member_at ms (scheduler_of network stream leg hop)) are.members
     ∙ scheduler_there network stream leg hop is.is_hop
-    ∙ ap (member_behind (sender_at network stream)) is.behind
+    ∙ ap (member_behind network.topology (sender_at network stream)) is.behind
 
 -- its group is that behind the port
 pub group-is : (network : DeclaredNetwork) (groups : GroupsState) (stream leg hop port class : ℕ)
@@ -89,11 +90,11 @@ pub verdict-is : (network : DeclaredNetwork) (groups : GroupsState) (stream leg 
     (arrival octets : ℕ) → AreGroupsOf network groups → IsScheduler network stream leg hop port class
     → port < length network.topology.ports → IsStateOf network groups port class state
     → verdict_of groups (scheduler_of network stream leg hop) arrival octets
-    ≡ judged (declared_by network) (residence_of_groups network port) state
+    ≡ judged (scheduled_by network port) (residence_of_groups network port) state
     (record { member = stream; arrival = arrival; octets = octets })
 verdict-is network groups stream leg hop port class state arrival octets are is below kept =
     let member : ℕ = scheduler_of network stream leg hop in
-    let declared : Declared = declared_by network stream in
+    let declared : Declared = scheduled_by network port stream in
     let on : ℕ → ℕ → ℤ → Verdict = λ (r t : ℕ) (b : ℤ). verdict_on declared r t b arrival octets in
     let residence = ap (λ (rs : List ℕ). get_or rs (group_behind port class) 0) are.residences
     ∙ residence_behind network port class below is.few in
@@ -144,7 +145,7 @@ pub state-own : (network : DeclaredNetwork) (groups : GroupsState) (stream leg h
     → IsScheduler network stream leg hop port class
     → IsStateOf network groups port class state
     → IsStateOf network (groups_after groups (scheduler_of network stream leg hop) octets v) port class
-    (after (declared_by network) state (record { member = stream; arrival = arrival; octets = octets }) v)
+    (after (scheduled_by network port) state (record { member = stream; arrival = arrival; octets = octets }) v)
 state-own network groups stream leg hop port class state arrival octets (Late e) rules are is kept =
     record { time = kept.time; empties = kept.empties }
 state-own network groups stream leg hop port class state arrival octets Size rules are is kept =
@@ -158,10 +159,10 @@ state-own network groups stream leg hop port class state arrival octets (Eligibl
     let grouped : group_of groups member < length groups.times =
     omega (arith, are.lawful.times, (are.lawful.members member no_member there).group) in
     let once : ℤ = empty_once (declared_at groups member) (empty_at groups.empties member) e.0 octets in
-    let once_is : once ≡ empty_once (declared_by network stream) (state.empty stream) e.0 octets =
+    let once_is : once ≡ empty_once (scheduled_by network port stream) (state.empty stream) e.0 octets =
     ap (λ (m : Member). empty_once m.declared (empty_at groups.empties member) e.0 octets)
     (member-is network groups stream leg hop port class are is)
-    ∙ ap (λ (b : ℤ). empty_once (declared_by network stream) b e.0 octets)
+    ∙ ap (λ (b : ℤ). empty_once (scheduled_by network port stream) b e.0 octets)
     (kept.empties stream leg hop is.is_hop is.behind is.in_class) in
     let none : Ps = record { 0 = 0 } in
     record {
@@ -169,7 +170,8 @@ state-own network groups stream leg hop port class state arrival octets (Eligibl
           ∙ ap (λ (p : Ps). p.0) (get_or-set_same groups.times (group_of groups member) e none grouped);
       empties = λ s l h is_hop at_port at_class.
           let Goal : Type 0 = empty_at (set groups.empties member once) (scheduler_of network s l h)
-          ≡ (if s == stream then empty_once (declared_by network s) (state.empty s) e.0 octets else state.empty s) in
+          ≡ (if s == stream then empty_once (scheduled_by network port s) (state.empty s) e.0 octets
+          else state.empty s) in
           elim (cases_eq s stream) as (λ _. Goal) [
             | inl same ↦ (
                 let own : IsScheduler network stream l h port class =
@@ -183,7 +185,7 @@ state-own network groups stream leg hop port class state arrival octets (Eligibl
                 ∙ get_or-set_same groups.empties member once (pos 0)
                 (omega (arith, are.lawful.empties, there))
                 ∙ once_is
-                ∙ ap (λ (n : ℕ). empty_once (declared_by network n) (state.empty n) e.0 octets) (sym same)
+                ∙ ap (λ (n : ℕ). empty_once (scheduled_by network port n) (state.empty n) e.0 octets) (sym same)
                 ∙ sym (cond-true (s == stream) _ _ (eq-eqb s stream same)))
             | inr other ↦ (
                 get_or-set_other groups.empties member (scheduler_of network s l h) once (pos 0)

@@ -8,8 +8,8 @@ use Rattle.ats_engine_steps.specs.Course.{Course}
 use Rattle.ats_engine_steps.specs.Invariant.{Holds}
 use Rattle.ats_engine_steps.specs.Steps.{Comes, BecomesEligible, Selects, due_entries, rows_next}
 use Rattle.ats_engine_steps.specs.declared.event.Event.{Event}
-use Rattle.ats_engine_steps.specs.declared.event.Event.TheVariants.{Arrival, Eligibility, Selection}
-use Rattle.ats_engine_proofs.specs.Next.{IsNext}
+use Rattle.ats_engine_steps.specs.declared.event.Event.TheVariants.{Arrival, Selection}
+use Rattle.ats_engine_proofs.specs.Next.{IsEligibleNow, IsNext}
 use Rattle.ats_engine_proofs.proofs.Entries.{comes-awaited, offered-awaited, selects-awaited}
 use Rattle.ats_engine_proofs.proofs.Frames.{comes-shape, comes-frames, offered-shape, offered-frames, selects-shape}
 use Rattle.ats_engine_proofs.proofs.Frames.{selects-frames}
@@ -42,7 +42,7 @@ comes-holds next step =
 -- a frame that becomes eligible along a leg
 pub offered-holds : {T : Type 0} {key : T → ℕ → ℕ → ℕ} {wait : ℕ → ℕ → ℕ} {network : DeclaredNetwork}
     {releases : List Release} {old new : Course T} {now : Moment} {row : ℕ} {entries more : List (Moment × Event)}
-    → IsNext key wait network releases old now (Eligibility row) entries
+    → IsEligibleNow key wait network releases old now row entries
     → BecomesEligible key network old new now row more
     → Holds key wait network releases new (more ++ entries)
 offered-holds next step =

@@ -14,6 +14,7 @@ use Rattle.ats_network.specs.Network.{DeclaredNetwork, IsNetwork}
 use Rattle.ats_network.specs.Class.{class_at}
 use Rattle.ats_network.specs.Sender.{Sender}
 use Rattle.ats_network.specs.Senders.{IsSender, sender_at}
+use Rattle.ats_network.proofs.RateLemmas.{scheduled_ruled}
 use Rattle.ats_network.proofs.SenderLemmas.{sender_keeps}
 use Rattle.ats_group.specs.Group.{Offer}
 use Rattle.ats_streams.specs.Branches.{leg_at, legs_of}
@@ -26,8 +27,8 @@ use Rattle.ats_group_law.proofs.Soon.{IsEligibleUntil, IsLateUntil, most_given, 
 use Rattle.ats_trace.specs.Journey.{BeginsAs, IsCopy, IsJourney, IsReleased, IsSentOrEnds, IsWay, Leg, Travel, legs_in}
 use Rattle.ats_trace.specs.Projections.{Handed, transmission_by, transmission_of, handed_at, handed_along}
 use Rattle.ats_trace.specs.Projections.{handed_over, journey_handed, handed_from, handed_by}
-use Rattle.ats_trace.specs.Eligibility.{declared_by, offer_of, IsJudged, IsPassed, residence_of_groups}
-use Rattle.ats_trace.specs.Run.{IsLegal}
+use Rattle.ats_trace.specs.Eligibility.{IsJudged, IsPassed, offer_of, residence_of_groups, scheduled_by}
+use Rattle.ats_trace.specs.Run.{IsIdeal}
 use Rattle.ats_trace.specs.declared.journey.Ending.{Ending}
 use Rattle.ats_trace.specs.declared.journey.Ending.TheVariants.{Sink, Discard}
 use Rattle.ats_trace.specs.HopRecord.{HopRecord}
@@ -69,13 +70,13 @@ after_all = horizon + most_latency + 1
 -- are before this time
 record IsCome (network : DeclaredNetwork) (time : ℕ) (h : Handed) : Type 0 where
   within : h.crossing.port < length network.topology.ports
-  ruled : 1 ≤ h.crossing.sent.class → IsRuled (declared_by network h.crossing.sent.sender)
+  ruled : 1 ≤ h.crossing.sent.class → IsRuled (scheduled_by network h.crossing.port h.crossing.sent.sender)
   arrival : h.crossing.arrival < time
   eligible : IsEligibleBefore time h.verdict
 
 come-at : (network : DeclaredNetwork) (time frame came p : ℕ) (release : Release) (class : ℕ) (verdict : Verdict)
     (sent : Option (Ps × Ps)) (hops : List HopRecord) → p < length network.topology.ports
-    → (1 ≤ class → IsRuled (declared_by network release.sender)) → All (IsHopDoneBefore time) hops
+    → (1 ≤ class → IsRuled (scheduled_by network p release.sender)) → All (IsHopDoneBefore time) hops
     → All (IsCome network time)
     (handed_at release.octets came p (transmission_by frame release class verdict sent) hops)
 come-at network time frame came p release class (Eligible e) (Some times) (next ∷ hops) within ruled done =
@@ -92,7 +93,7 @@ come-at network time frame came p release class Size sent hops within ruled done
 
 come-along : (network : DeclaredNetwork) (time frame : ℕ) (release : Release) (s : Sender) (path : List ℕ)
     (hops : List HopRecord) → All (λ (p : ℕ). p < length network.topology.ports) path
-    → ((p : ℕ) → 1 ≤ class_at s p → IsRuled (declared_by network release.sender)) → All (IsHopDoneBefore time) hops
+    → ((p : ℕ) → 1 ≤ class_at s p → IsRuled (scheduled_by network p release.sender)) → All (IsHopDoneBefore time) hops
     → All (IsCome network time) (handed_along frame release s path hops)
 come-along network time frame release s [] hops within ruled done = All-nil (IsCome network time)
 come-along network time frame release s (p ∷ path) [] within ruled done = All-nil (IsCome network time)
@@ -108,7 +109,7 @@ come-along network time frame release s (p ∷ path) (hop ∷ hops) within ruled
 
 come-over : (network : DeclaredNetwork) (time frame : ℕ) (release : Release) (s : Sender) (paths : List (List ℕ))
     (legs : List Leg) → All (All (λ (p : ℕ). p < length network.topology.ports)) paths
-    → ((p : ℕ) → 1 ≤ class_at s p → IsRuled (declared_by network release.sender)) → All (IsLegDoneBefore time) legs
+    → ((p : ℕ) → 1 ≤ class_at s p → IsRuled (scheduled_by network p release.sender)) → All (IsLegDoneBefore time) legs
     → All (IsCome network time) (handed_over frame release s paths legs)
 come-over network time frame release s [] legs within ruled done = All-nil (IsCome network time)
 come-over network time frame release s (path ∷ paths) [] within ruled done = All-nil (IsCome network time)
@@ -131,14 +132,15 @@ come-run network time n (j ∷ run) rules journeys done =
     let keeps : IsSender network.topology s = sender_keeps network j.release.sender rules is.sender in
     All-append (IsCome network time) (journey_handed network n j) (handed_from network (n + 1) run)
     (come-over network time n j.release s (legs_of s.ports s.branches) (legs_in j)
-    (legs_keep (λ (p : ℕ). p < length network.topology.ports) 0 s.ports s.branches keeps.ports) keeps.shaped
+    (legs_keep (λ (p : ℕ). p < length network.topology.ports) 0 s.ports s.branches keeps.ports)
+    (λ p some. scheduled_ruled network.topology s p keeps some)
     (All-head (IsJourneyDoneBefore time) j run done).legs)
     (come-run network time (n + 1) run rules (All-tail (IsJourney network) j run journeys)
     (All-tail (IsJourneyDoneBefore time) j run done))
 
 -- a frame that came behind a port of a class that has a group
-record IsOffered (network : DeclaredNetwork) (limit : ℕ) (h : Handed) : Type 0 where
-  ruled : IsRuled (declared_by network h.crossing.sent.sender)
+record IsOffered (network : DeclaredNetwork) (port limit : ℕ) (h : Handed) : Type 0 where
+  ruled : IsRuled (scheduled_by network port h.crossing.sent.sender)
   arrival : h.crossing.arrival ≤ limit
   eligible : IsEligibleUntil limit h.verdict
 
@@ -152,21 +154,22 @@ abbrev IsLateHanded : ℕ → Handed → Type 0
 IsLateHanded limit h = IsLateUntil limit h.verdict
 
 -- so of the frames of one group
-group-late : (network : DeclaredNetwork) (residence_ns limit : ℕ) (handed : List Handed)
-    → IsJudged ats_judge network residence_ns handed → All (IsOffered network limit) handed
+group-late : (network : DeclaredNetwork) (port limit : ℕ) (handed : List Handed)
+    → IsJudged ats_judge network port handed → All (IsOffered network port limit) handed
     → All (IsLateHanded (limit + most_given)) handed
-group-late network residence_ns limit handed j offered =
-    let there : All (IsOffered network limit) j.arrivals =
-    All-permutation (IsOffered network limit) handed j.arrivals j.same offered in
+group-late network port limit handed j offered =
+    let there : All (IsOffered network port limit) j.arrivals =
+    All-permutation (IsOffered network port limit) handed j.arrivals j.same offered in
     let told : List Verdict = map (λ (h : Handed). h.verdict) j.arrivals in
-    let ruled = All-map (λ (o : Offer). IsRuled (declared_by network o.member)) offer_of j.arrivals
+    let ruled = All-map (λ (o : Offer). IsRuled (scheduled_by network port o.member)) offer_of j.arrivals
     (λ k d h. (there k d h).ruled) in
     let arrived = All-map (λ (o : Offer). o.arrival ≤ limit) offer_of j.arrivals (λ k d h. (there k d h).arrival) in
     let eligible : All (IsEligibleUntil limit) told =
     All-map (IsEligibleUntil limit) (λ (h : Handed). h.verdict) j.arrivals (λ k d h. (there k d h).eligible) in
     let late : All (IsLateUntil (limit + most_given)) told =
     subst (All (IsLateUntil (limit + most_given))) (sym j.verdicts)
-    (late_times_within (declared_by network) residence_ns limit (map offer_of j.arrivals) ruled arrived
+    (late_times_within (scheduled_by network port) (residence_of_groups network port) limit (map offer_of j.arrivals)
+    ruled arrived
     (subst (All (IsEligibleUntil limit)) j.verdicts eligible)) in
     All-permutation (IsLateHanded (limit + most_given)) j.arrivals handed (IsPermutation-sym handed j.arrivals j.same)
     (all_unmapped (IsLateUntil (limit + most_given)) (λ (h : Handed). h.verdict) j.arrivals late)
@@ -180,12 +183,12 @@ passed-late network limit h passed = subst (IsLateUntil limit) (sym passed) (by 
     by false = tt
 
 -- the frames of one port and class
-place-late : (network : DeclaredNetwork) (limit : ℕ) (run : List Travel) → IsLegal network run
+place-late : (network : DeclaredNetwork) (limit : ℕ) (run : List Travel) → IsIdeal network run
     → All (IsCome network (limit + 1)) (handed_from network 0 run) → (port class : ℕ)
     → port < length network.topology.ports → All (IsLateHanded (limit + most_given)) (handed_by network run port class)
 place-late network limit run legal come port class within =
     elim (cases_lt 0 class) as (λ _. All (IsLateHanded (limit + most_given)) (handed_by network run port class)) [
-      | inl shaped ↦ group-late network (residence_of_groups network port) limit (handed_by network run port class)
+      | inl shaped ↦ group-late network port limit (handed_by network run port class)
           (legal.groups port class within shaped) (offered shaped)
       | inr none ↦ (
           let zero_class : class ≡ 0 = omega arith in
@@ -197,21 +200,23 @@ place-late network limit run legal come port class within =
     test : Handed → Bool
     test h = h.crossing.port == port && h.crossing.sent.class == class
 
-    offered : 1 ≤ class → All (IsOffered network limit) (handed_by network run port class)
+    offered : 1 ≤ class → All (IsOffered network port limit) (handed_by network run port class)
     offered shaped k d h =
         let one = All-filter test (IsCome network (limit + 1)) (handed_from network 0 run) come k d h in
         let passes = filter_passes test (handed_from network 0 run) k d h in
         let handed : Handed = get_or (handed_by network run port class) k d in
         let parts = and_parts (handed.crossing.port == port) (handed.crossing.sent.class == class) passes in
         let of_class : handed.crossing.sent.class ≡ class = eqb-true handed.crossing.sent.class class parts.1 in
+        let behind : handed.crossing.port ≡ port = eqb-true handed.crossing.port port parts.0 in
         record {
-          ruled = one.ruled (omega arith);
+          ruled = subst (λ (n : ℕ). IsRuled (scheduled_by network n handed.crossing.sent.sender)) behind
+              (one.ruled (omega arith));
           arrival = (let a = one.arrival in omega arith);
           eligible = until limit handed.verdict one.eligible;
         }
 
 -- all frames that came behind a port
-all-late : (network : DeclaredNetwork) (limit : ℕ) (run : List Travel) → IsLegal network run
+all-late : (network : DeclaredNetwork) (limit : ℕ) (run : List Travel) → IsIdeal network run
     → All (IsCome network (limit + 1)) (handed_from network 0 run)
     → All (IsLateHanded (limit + most_given)) (handed_from network 0 run)
 all-late network limit run legal come k d h =
@@ -387,7 +392,7 @@ journey-in-time j done late =
 
 -- a legal run whose moments are all before that time tells no time that is not before the end of time
 pub in-time-with-late : (network : DeclaredNetwork) (run : List Travel) → IsNetwork network
-    → IsLegal network run → All (IsJourneyDoneBefore after_all) run → IsRunInTime run
+    → IsIdeal network run → All (IsJourneyDoneBefore after_all) run → IsRunInTime run
 in-time-with-late network run rules legal done k d h =
     let limit : ℕ = horizon + most_latency in
     let come = come-run network after_all 0 run rules legal.journeys done in

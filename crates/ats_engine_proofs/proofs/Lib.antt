@@ -9,6 +9,7 @@ pub mod Conclusion
 pub mod Crossed
 pub mod Counting
 pub mod EachLeg
+pub mod EligibleNow
 pub mod Entries
 pub mod Events
 pub mod Fates

@@ -23,7 +23,8 @@ use Rattle.ats_group.specs.GroupsState as groups
 use Rattle.ats_group.specs.GroupsState.{GroupsState, AreMembers, empty_at, first_empties, no_member}
 use Rattle.ats_group.specs.declared.member.Member.{Member}
 use Rattle.ats_group.proofs.StepLemmas.{opened_first}
-use Rattle.ats_schedulers.specs.Schedulers.{IsHop, group_behind, residence_of, residences_of, members_of, scheduler_of}
+use Rattle.ats_schedulers.specs.Schedulers.{IsHop, group_behind, leg_ports, residence_of, residences_of, members_of}
+use Rattle.ats_schedulers.specs.Schedulers.{scheduler_of}
 use Rattle.ats_schedulers.proofs.Listing.{members_are}
 use Rattle.ats_schedulers.proofs.Places.{scheduler_within, scheduler_there}
 use Rattle.ats_port_rule.specs.Transmission.{Transmission}
@@ -33,7 +34,7 @@ use Rattle.ats_transmit.specs.State.{PortState}
 use Rattle.ats_transmit.specs.declared.offer.Offer.{Offer}
 use Rattle.ats_transmit.proofs.Lawful.{lawful-open}
 use Rattle.ats_events.specs.declared.moment.Moment.{Moment}
-use Rattle.ats_trace.specs.Eligibility.{IsPassed, declared_by}
+use Rattle.ats_trace.specs.Eligibility.{IsPassed, scheduled_by}
 use Rattle.ats_trace.specs.Journey.{legs_at}
 use Rattle.ats_trace.specs.Links.{KeepsLinkRule, KeepsPace, in_order_from}
 use Rattle.ats_trace.specs.Projections.{Hop, Crossing, Handed, hops_along, crossings_along, handed_along}
@@ -489,10 +490,10 @@ groups-opened network rules =
       members = refl;
     }
 
--- each scheduler has the bucket that its stream has at first
+-- each scheduler has the bucket that is its at first behind its port
 empty-opened : (network : DeclaredNetwork) (stream leg hop : ℕ) → IsHop network stream leg hop
     → empty_at (first_empties (members_of network)) (scheduler_of network stream leg hop)
-    ≡ first_empty (declared_by network stream).burst_bits
+    ≡ first_empty (scheduled_by network (get_or (leg_ports network stream leg) (hop - 1) 0) stream).burst_bits
 empty-opened network stream leg hop is =
     let place : ℕ = scheduler_of network stream leg hop in
     let empty : Member → ℤ = λ (m : Member). first_empty m.declared.burst_bits in
@@ -502,11 +503,12 @@ empty-opened network stream leg hop is =
 -- and keep what their folds begin with
 state-opened : (network : DeclaredNetwork) (port class : ℕ)
     → IsStateOf network (groups.opened (residences_of network) (members_of network)) port class
-    (first (declared_by network))
+    (first (scheduled_by network port))
 state-opened network port class = record {
   time = ap (λ (s : State). s.time)
       (opened_first (residences_of network) (members_of network) (group_behind port class));
-  empties = λ stream leg hop is behind own. empty-opened network stream leg hop is;
+  empties = λ stream leg hop is behind own. empty-opened network stream leg hop is
+      ∙ ap (λ (p : ℕ). first_empty (scheduled_by network p stream).burst_bits) behind;
 }
 
 -- which is what nothing leaves
@@ -521,7 +523,7 @@ opened-groups network releases course are opened port class =
           (sym (handed-nothing network releases course port class are opened)) (IsPermutation-refl nothing);
       in_order = λ i j d less h. absurd (omega arith);
       verdicts = refl;
-      state = subst (λ (g : GroupsState). IsStateOf network g port class (first (declared_by network)))
+      state = subst (λ (g : GroupsState). IsStateOf network g port class (first (scheduled_by network port)))
           (sym opened.groups) (state-opened network port class);
       reached = All-nil (λ (h : Handed). h.crossing.arrival ≤ course.last.at.0);
     }

@@ -18,8 +18,8 @@ use Rattle.ats_engine_steps.specs.Paces.{IsPaced, arrival_behind}
 use Rattle.ats_engine_steps.specs.Ports.{port_state_at}
 use Rattle.ats_engine_steps.specs.Steps.{Comes, BecomesEligible, Selects}
 use Rattle.ats_engine_steps.specs.declared.event.Event.{Event}
-use Rattle.ats_engine_steps.specs.declared.event.Event.TheVariants.{Arrival, Eligibility, Selection}
-use Rattle.ats_engine_proofs.specs.Next.{IsNext}
+use Rattle.ats_engine_steps.specs.declared.event.Event.TheVariants.{Arrival, Selection}
+use Rattle.ats_engine_proofs.specs.Next.{IsEligibleNow, IsNext}
 use Rattle.ats_engine_proofs.proofs.Arriving.{IsNewest, rule-more, pace-more, from-more}
 use Rattle.ats_engine_proofs.proofs.Crossed.{crossed-ended}
 use Rattle.ats_engine_proofs.proofs.Lasting.{selects-free, selects-later, selects-soon}
@@ -55,7 +55,7 @@ comes-paces {T} {key} {wait} {network} {releases} {old} {new} {now} {row} {entri
 -- and so after a frame became eligible
 pub offered-paces : {T : Type 0} {key : T → ℕ → ℕ → ℕ} {wait : ℕ → ℕ → ℕ} {network : DeclaredNetwork}
     {releases : List Release} {old new : Course T} {now : Moment} {row : ℕ} {entries more : List (Moment × Event)}
-    → IsNext key wait network releases old now (Eligibility row) entries
+    → IsEligibleNow key wait network releases old now row entries
     → BecomesEligible key network old new now row more → (other : ℕ) → other < length network.topology.ports
     → IsPaced wait network new other
 offered-paces {T} {key} {wait} {network} {releases} {old} {new} {now} {row} {entries} {more} next step other below =

@@ -22,13 +22,13 @@ use Rattle.ats_engine_steps.specs.Ports.{IsTurn, IsPortOf, port_state_at}
 use Rattle.ats_engine_steps.specs.Steps.{Move, leaves_for, turn_once_offered}
 use Rattle.ats_engine_steps.specs.Steps.{BecomesEligible, Selects}
 use Rattle.ats_engine_steps.specs.declared.event.Event.{Event}
-use Rattle.ats_engine_steps.specs.declared.event.Event.TheVariants.{Eligibility, Selection}
+use Rattle.ats_engine_steps.specs.declared.event.Event.TheVariants.{Selection}
 use Rattle.ats_engine_steps.specs.declared.stage.Stage.TheVariants.{Due, Waiting, Over}
 use Rattle.ats_engine_steps.specs.declared.turn.Turn.{Turn}
 use Rattle.ats_engine_steps.specs.declared.turn.Turn.TheVariants.{Resting}
-use Rattle.ats_engine_proofs.specs.Next.{IsNext}
+use Rattle.ats_engine_proofs.specs.Next.{IsEligibleNow, IsNext}
 use Rattle.ats_engine_proofs.proofs.Allowed.{may-be-offered, waiting-stands}
-use Rattle.ats_engine_proofs.proofs.Away.{between-away, due-over, leaves-between, leaves-release, row-within}
+use Rattle.ats_engine_proofs.proofs.Away.{between-away, leaves-between, leaves-release}
 use Rattle.ats_engine_proofs.proofs.Moving.{selecting-phase, last-stands, changes-one}
 use Rattle.ats_engine_proofs.proofs.Now.{next-reached}
 use Rattle.ats_engine_proofs.proofs.OnePlace.{standing-one}
@@ -45,7 +45,7 @@ use Rattle.ats_engine_proofs.proofs.Travels.{selects-stage, selects-within}
 -- a frame that becomes eligible is offered with the time of the event
 pub offered-eligible : {T : Type 0} {key : T → ℕ → ℕ → ℕ} {wait : ℕ → ℕ → ℕ} {network : DeclaredNetwork}
     {releases : List Release} {course : Course T} {now : Moment} {row : ℕ} {entries : List (Moment × Event)}
-    → IsNext key wait network releases course now (Eligibility row) entries → row < length course.records
+    → IsEligibleNow key wait network releases course now row entries → row < length course.records
     → stage_at course row ≡ Due now.at → (offer_at network course row).eligible ≡ now.at
 offered-eligible {T} {key} {wait} {network} {releases} {course} {now} {row} next within was =
     let p : Progress = progress_at course.records row in
@@ -59,16 +59,16 @@ offered-eligible {T} {key} {wait} {network} {releases} {course} {now} {row} next
 -- what becomes of a frame that is offered to a port
 pub offering : {T : Type 0} {key : T → ℕ → ℕ → ℕ} {wait : ℕ → ℕ → ℕ} {network : DeclaredNetwork}
     {releases : List Release} {old new : Course T} {now : Moment} {row : ℕ} {entries more : List (Moment × Event)}
-    → IsNext key wait network releases old now (Eligibility row) entries
+    → IsEligibleNow key wait network releases old now row entries
     → (step : BecomesEligible key network old new now row more)
     → IsOffering network old new now.at row step.port
 offering {T} {key} {wait} {network} {releases} {old} {new} {now} {row} next step =
     let p : Progress = progress_at old.records row in
     let was : stage_at old row ≡ Due now.at = next-due next in
-    let here : row < length old.records = row-within next row (Due now.at) was (due-over now.at) in
+    let here : row < length old.records = due-within next in
     let here_too : row < length old.stages = subst (λ (n : ℕ). row < n) (sym next.holds.shape.stages) here in
     record {
-      changes = changes-one network old new now row Waiting p here refl (next-reached next)
+      changes = changes-one network old new now row Waiting p here refl next.reached
           (ap (λ (x : Course T). x.stages) step.becomes) (ap (λ (x : Course T). x.records) step.becomes)
           (ap (λ (x : Course T). x.last) step.becomes) (ap (λ (x : Course T). x.tie) step.becomes)
           (ap (λ (x : Course T). x.firsts) step.becomes);
@@ -86,7 +86,7 @@ offering {T} {key} {wait} {network} {releases} {old} {new} {now} {row} next step
 -- it is offered to one of the network
 pub offered-within : {T : Type 0} {key : T → ℕ → ℕ → ℕ} {wait : ℕ → ℕ → ℕ} {network : DeclaredNetwork}
     {releases : List Release} {old new : Course T} {now : Moment} {row : ℕ} {entries more : List (Moment × Event)}
-    → IsNext key wait network releases old now (Eligibility row) entries
+    → IsEligibleNow key wait network releases old now row entries
     → (step : BecomesEligible key network old new now row more) → step.port < length network.topology.ports
 offered-within {T} {key} {wait} {network} {releases} {old} {new} {now} {row} next step =
     let is = due-frame next in
@@ -97,7 +97,7 @@ offered-within {T} {key} {wait} {network} {releases} {old} {new} {now} {row} nex
 -- which selects, if it has rested, as soon as it is free
 pub offered-at : {T : Type 0} {key : T → ℕ → ℕ → ℕ} {wait : ℕ → ℕ → ℕ} {network : DeclaredNetwork}
     {releases : List Release} {old new : Course T} {now : Moment} {row : ℕ} {entries more : List (Moment × Event)}
-    → IsNext key wait network releases old now (Eligibility row) entries
+    → IsEligibleNow key wait network releases old now row entries
     → (step : BecomesEligible key network old new now row more) → turn_at old step.port ≡ Resting
     → step.at.0 ≡ max now.at.0 (last_end (port_state_at old step.port).sent)
 offered-at {T} {key} {wait} {network} {releases} {old} {new} {now} {row} next step rests =
@@ -113,7 +113,7 @@ offered-at {T} {key} {wait} {network} {releases} {old} {new} {now} {row} next st
 -- the port that a frame is offered to
 pub offered-here : {T : Type 0} {key : T → ℕ → ℕ → ℕ} {wait : ℕ → ℕ → ℕ} {network : DeclaredNetwork}
     {releases : List Release} {old new : Course T} {now : Moment} {row : ℕ} {entries more : List (Moment × Event)}
-    → IsNext key wait network releases old now (Eligibility row) entries
+    → IsEligibleNow key wait network releases old now row entries
     → (step : BecomesEligible key network old new now row more) → step.port < length network.topology.ports
     → IsPortOf key network new step.port (port_state_at new step.port)
 offered-here {T} {key} {wait} {network} {releases} {old} {new} {now} {row} next step within =

@@ -15,12 +15,12 @@ use Rattle.ats_engine_steps.specs.Ports.{IsPortOf, port_state_at}
 use Rattle.ats_engine_steps.specs.Steps.{came, rows_next, set_each, stage_by, turn_once_offered}
 use Rattle.ats_engine_steps.specs.Steps.{Comes, BecomesEligible, Selects}
 use Rattle.ats_engine_steps.specs.declared.event.Event.{Event}
-use Rattle.ats_engine_steps.specs.declared.event.Event.TheVariants.{Arrival, Eligibility, Selection}
+use Rattle.ats_engine_steps.specs.declared.event.Event.TheVariants.{Arrival, Selection}
 use Rattle.ats_engine_steps.specs.declared.stage.Stage.{Stage}
 use Rattle.ats_engine_steps.specs.declared.stage.Stage.TheVariants.{Apart, Coming, Due, Over}
 use Rattle.ats_engine_steps.specs.declared.turn.Turn.{Turn}
 use Rattle.ats_engine_steps.specs.declared.turn.Turn.TheVariants.{Resting}
-use Rattle.ats_engine_proofs.specs.Next.{IsNext}
+use Rattle.ats_engine_proofs.specs.Next.{IsEligibleNow, IsNext}
 use Rattle.ats_engine_proofs.proofs.Allowed.{may-come}
 use Rattle.ats_engine_proofs.proofs.Away.{between-away, placed-away, stage-between}
 use Rattle.ats_engine_proofs.proofs.Begun.{IsApart, next-or-apart}
@@ -90,7 +90,7 @@ comes-ports {T} {key} {wait} {network} {releases} {old} {new} {now} {row} next s
 -- after one became eligible
 pub offered-ports : {T : Type 0} {key : T → ℕ → ℕ → ℕ} {wait : ℕ → ℕ → ℕ} {network : DeclaredNetwork}
     {releases : List Release} {old new : Course T} {now : Moment} {row : ℕ} {entries more : List (Moment × Event)}
-    → IsNext key wait network releases old now (Eligibility row) entries
+    → IsEligibleNow key wait network releases old now row entries
     → BecomesEligible key network old new now row more
     → (other : ℕ) → other < length network.topology.ports
     → IsPortOf key network new other (port_state_at new other)

@@ -9,14 +9,14 @@ use Rattle.ats_network.specs.Network.{DeclaredNetwork}
 use Rattle.ats_events.specs.declared.moment.Moment.{Moment}
 use Rattle.ats_trace.specs.declared.journey.Release.{Release}
 use Rattle.ats_engine_steps.specs.Course.{Course, stage_at, turn_at}
-use Rattle.ats_engine_steps.specs.Entries.{arrival_by, eligibility_by, selection_by, moment_of}
+use Rattle.ats_engine_steps.specs.Entries.{arrival_by, eligibility_by, eligible_moment, selection_by, moment_of}
 use Rattle.ats_engine_steps.specs.declared.event.Event.{Event}
 use Rattle.ats_engine_steps.specs.declared.event.Event.TheVariants.{Arrival, Eligibility, Selection}
 use Rattle.ats_engine_steps.specs.declared.stage.Stage.{Stage}
 use Rattle.ats_engine_steps.specs.declared.stage.Stage.TheVariants.{Apart, Coming, Due, Waiting, Over}
 use Rattle.ats_engine_steps.specs.declared.turn.Turn.{Turn}
 use Rattle.ats_engine_steps.specs.declared.turn.Turn.TheVariants.{Resting, Selecting}
-use Rattle.ats_engine_proofs.specs.Next.{IsNext}
+use Rattle.ats_engine_proofs.specs.Next.{IsEligibleNow, IsNext}
 
 -- the time of a moment, where there is one
 abbrev time_of : Option Moment → Ps → Ps
@@ -32,7 +32,7 @@ coming-by row Waiting now is = absurd (none-some now is)
 coming-by row Over now is = absurd (none-some now is)
 
 -- one that becomes eligible then is due then
-due-by : (row : ℕ) (stage : Stage) (now : Moment) → eligibility_by row stage ≡ Some now → stage ≡ Due now.at
+pub due-by : (row : ℕ) (stage : Stage) (now : Moment) → eligibility_by row stage ≡ Some now → stage ≡ Due now.at
 due-by row (Due at) now is = ap (λ (m : Option Moment). Due (time_of m at)) is
 due-by row (Coming at) now is = absurd (none-some now is)
 due-by row Apart now is = absurd (none-some now is)
@@ -59,12 +59,14 @@ pub next-coming : {T : Type 0} {key : T → ℕ → ℕ → ℕ} {wait : ℕ →
 next-coming {T} {key} {wait} {network} {releases} {course} {now} {row} next =
     coming-by row (stage_at course row) now (next-moment next)
 
--- one that becomes eligible next is due
+-- one that becomes eligible now is due
 pub next-due : {T : Type 0} {key : T → ℕ → ℕ → ℕ} {wait : ℕ → ℕ → ℕ} {network : DeclaredNetwork}
     {releases : List Release} {course : Course T} {now : Moment} {row : ℕ} {entries : List (Moment × Event)}
-    → IsNext key wait network releases course now (Eligibility row) entries → stage_at course row ≡ Due now.at
-next-due {T} {key} {wait} {network} {releases} {course} {now} {row} next =
-    due-by row (stage_at course row) now (next-moment next)
+    → IsEligibleNow key wait network releases course now row entries → stage_at course row ≡ Due now.at
+next-due {T} {key} {wait} {network} {releases} {course} {now} {row} {entries} next =
+    due-by row (stage_at course row) (eligible_moment row now.at)
+    (All-head (λ (entry : Moment × Event). moment_of course entry.1 ≡ Some entry.0)
+    (eligible_moment row now.at, Eligibility row) entries next.holds.awaited.each)
 
 -- a port that selects next is to select
 pub next-selecting : {T : Type 0} {key : T → ℕ → ℕ → ℕ} {wait : ℕ → ℕ → ℕ} {network : DeclaredNetwork}

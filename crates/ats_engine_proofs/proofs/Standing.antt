@@ -14,11 +14,11 @@ use Rattle.ats_engine_steps.specs.Course.{Course, stage_at}
 use Rattle.ats_engine_steps.specs.Frames.{IsFrame, Goes, Stands, IsSent}
 use Rattle.ats_engine_steps.specs.Steps.{set_each}
 use Rattle.ats_engine_steps.specs.declared.event.Event.{Event}
-use Rattle.ats_engine_steps.specs.declared.event.Event.TheVariants.{Arrival, Eligibility, Selection}
+use Rattle.ats_engine_steps.specs.declared.event.Event.TheVariants.{Arrival, Selection}
 use Rattle.ats_engine_steps.specs.declared.stage.Stage.{Stage}
 use Rattle.ats_engine_steps.specs.declared.stage.Stage.TheVariants.{Coming, Due, Over}
 use Rattle.ats_engine_steps.specs.declared.turn.Turn.TheVariants.{Selecting}
-use Rattle.ats_engine_proofs.specs.Next.{IsNext}
+use Rattle.ats_engine_proofs.specs.Next.{IsEligibleNow, IsNext}
 use Rattle.ats_engine_proofs.proofs.Gathered.{gather-same, gather-more}
 use Rattle.ats_engine_proofs.proofs.Parts.{IsLast}
 use Rattle.ats_engine_proofs.proofs.Stages.{next-coming, next-due, next-selecting, stage-within}
@@ -40,13 +40,13 @@ module _ {T : Type 0} {key : T → ℕ → ℕ → ℕ} {wait : ℕ → ℕ → 
       (next.holds.frames row (arriving-within next))
 
   -- the one along which a frame becomes eligible next too
-  pub due-within : {row : ℕ} → IsNext key wait network releases course now (Eligibility row) entries
+  pub due-within : {row : ℕ} → IsEligibleNow key wait network releases course now row entries
       → row < length course.records
   due-within {row} next =
       stage-within course row (Due now.at) next.holds.shape.stages (next-due next) (λ e. cc)
 
   -- where it stands so
-  pub due-frame : {row : ℕ} → IsNext key wait network releases course now (Eligibility row) entries
+  pub due-frame : {row : ℕ} → IsEligibleNow key wait network releases course now row entries
       → IsFrame network course (progress_at course.records row) (Due now.at)
   due-frame {row} next =
       subst (IsFrame network course (progress_at course.records row)) (next-due next)

@@ -30,7 +30,7 @@ use Rattle.ats_engine_steps.specs.Bounds.{EndsInTime, all_left, events_left, hor
 use Rattle.ats_engine_steps.specs.Bounds.{most_sending}
 use Rattle.ats_engine_steps.specs.Bounds.{ports_left, steps_left}
 use Rattle.ats_engine_steps.specs.Course.{Course, crossings_so_far, path_of, stage_at, turn_at}
-use Rattle.ats_engine_steps.specs.Entries.{arrival_moment, selection_moment}
+use Rattle.ats_engine_steps.specs.Entries.{arrival_moment, eligible_moment, selection_moment}
 use Rattle.ats_engine_steps.specs.Ports.{IsTurn, port_state_at}
 use Rattle.ats_engine_steps.specs.Steps.{Comes, BecomesEligible, Selects, Move, came, due_by, due_entries}
 use Rattle.ats_engine_steps.specs.Steps.{rows_next, selections, selections_once_offered, set_each, stage_by}
@@ -40,7 +40,7 @@ use Rattle.ats_engine_steps.specs.declared.stage.Stage.{Stage}
 use Rattle.ats_engine_steps.specs.declared.stage.Stage.TheVariants.{Apart, Coming, Due, Waiting}
 use Rattle.ats_engine_steps.specs.declared.turn.Turn.{Turn}
 use Rattle.ats_engine_steps.specs.declared.turn.Turn.TheVariants.{Resting, Selecting}
-use Rattle.ats_engine_proofs.specs.Next.{IsNext}
+use Rattle.ats_engine_proofs.specs.Next.{IsEligibleNow, IsNext}
 use Rattle.ats_engine_proofs.proofs.Allowed.{may-come}
 use Rattle.ats_engine_proofs.proofs.Begun.{IsApart, next-or-apart, rows_begun}
 use Rattle.ats_engine_proofs.proofs.Entries.{left_by}
@@ -56,20 +56,19 @@ use Rattle.ats_engine_proofs.proofs.Travels.{selects-crossing, selects-stage}
 use Rattle.ats_engine_proofs.proofs.Verdicts.{IsSoon, soon_now}
 
 -- the bounds hold after a step by which no more is left, where they hold of its entries and of the ports
-in-time : {T : Type 0} {key : T → ℕ → ℕ → ℕ} {wait : ℕ → ℕ → ℕ} {network : DeclaredNetwork}
-    {releases : List Release} {old : Course T} {now : Moment} {event : Event} {entries : List (Moment × Event)}
-    (new : Course T) (more : List (Moment × Event)) → IsNext key wait network releases old now event entries
-    → new.last ≡ now → all_left new ≤ all_left old
+in-time : {T : Type 0} {old : Course T} {own : Moment} {event : Event} {entries : List (Moment × Event)}
+    (new : Course T) (more : List (Moment × Event)) → EndsInTime old ((own, event) ∷ entries)
+    → new.last.at ≡ own.at → all_left new ≤ all_left old
     → All (λ (x : Moment × Event). x.0.at.0 + all_left new ≤ horizon) more
     → All (λ (s : PortState T). last_end s.sent + all_left new ≤ horizon) new.ports
     → EndsInTime new (more ++ entries)
-in-time {T} {key} {wait} {network} {releases} {old} {now} {event} {entries} new more next last less each ends =
+in-time {T} {old} {own} {event} {entries} new more bounds last less each ends =
     let InTime : ℕ → Moment × Event → Type 0 = λ (left : ℕ) (x : Moment × Event). x.0.at.0 + left ≤ horizon in
-    let first : now.at.0 + all_left old ≤ horizon =
-    All-head (InTime (all_left old)) (now, event) entries next.holds.bounds.each in
+    let first : own.at.0 + all_left old ≤ horizon =
+    All-head (InTime (all_left old)) (own, event) entries bounds.each in
     let others : All (InTime (all_left old)) entries =
-    All-tail (InTime (all_left old)) (now, event) entries next.holds.bounds.each in
-    let same : new.last.at.0 ≡ now.at.0 = ap (λ (m : Moment). m.at.0) last in
+    All-tail (InTime (all_left old)) (own, event) entries bounds.each in
+    let same : new.last.at.0 ≡ own.at.0 = ap (λ (at : Ps). at.0) last in
     record {
       last = omega arith;
       each = All-append (InTime (all_left new)) more entries each (λ k d h. omega (arith, others k d h));
@@ -99,18 +98,16 @@ same-ports {T} {key} {wait} {network} {releases} {old} new next same less =
     (λ k d h. omega (arith, next.holds.bounds.ends k d h))
 
 -- also where one stands differently, of which they hold
-set-ports : {T : Type 0} {key : T → ℕ → ℕ → ℕ} {wait : ℕ → ℕ → ℕ} {network : DeclaredNetwork}
-    {releases : List Release} {old : Course T} {now : Moment} {event : Event} {entries : List (Moment × Event)}
-    (new : Course T) (port : ℕ) (standing : PortState T) → IsNext key wait network releases old now event entries
-    → new.ports ≡ set old.ports port standing → all_left new ≤ all_left old
-    → last_end standing.sent + all_left new ≤ horizon
+set-ports : {T : Type 0} {old : Course T} {entries : List (Moment × Event)} (new : Course T) (port : ℕ)
+    (standing : PortState T) → EndsInTime old entries → new.ports ≡ set old.ports port standing
+    → all_left new ≤ all_left old → last_end standing.sent + all_left new ≤ horizon
     → All (λ (s : PortState T). last_end s.sent + all_left new ≤ horizon) new.ports
-set-ports {T} {key} {wait} {network} {releases} {old} new port standing next same less ends =
+set-ports {T} {old} new port standing bounds same less ends =
     let InTime : PortState T → Type 0 = λ (s : PortState T). last_end s.sent + all_left new ≤ horizon in
     subst (All InTime) (sym same) (λ k d h.
     at-set InTime old.ports port standing k d ends (omega (
       arith,
-      next.holds.bounds.ends k d (omega (arith, h, length-set old.ports port standing)),
+      bounds.ends k d (omega (arith, h, length-set old.ports port standing)),
     )))
 
 -- a move of a frame that is sent, which takes no more than before but for its transmission, and whose entry goes no
@@ -224,7 +221,7 @@ comes-bounds {T} {key} {wait} {network} {releases} {old} {new} {now} {row} {entr
     let left : all_left new + was ≤ all_left old + is =
     comes-left most_left next step (λ k d h. (each k d h).apart) in
     let less : all_left new ≤ all_left old = omega (arith, left, takes.time) in
-    in-time new (due_entries due rows) next (ap (λ (c : Course T). c.last) step.becomes) less
+    in-time new (due_entries due rows) next.holds.bounds (ap (λ (c : Course T). c.last.at) step.becomes) less
     (near-entries new (due_entries due rows) was is next left
     (of-due (λ (x : Moment × Event). x.0.at.0 + is ≤ now.at.0 + was) due rows
     (λ e at k d h. takes.due e (sym step.brings ∙ at))))
@@ -247,7 +244,7 @@ comes-less {T} {key} {wait} {network} {releases} {old} {new} {now} {row} next st
 -- what is left after a frame became eligible
 offered-left : {T : Type 0} {key : T → ℕ → ℕ → ℕ} {wait : ℕ → ℕ → ℕ} {network : DeclaredNetwork}
     {releases : List Release} {old new : Course T} {now : Moment} {row : ℕ} {entries more : List (Moment × Event)}
-    (f : Stage × Progress → ℕ) → IsNext key wait network releases old now (Eligibility row) entries
+    (f : Stage × Progress → ℕ) → IsEligibleNow key wait network releases old now row entries
     → BecomesEligible key network old new now row more
     → sum_by f (zip new.stages new.records) + f (Due now.at, progress_at old.records row)
     ≡ sum_by f (zip old.stages old.records) + f (Waiting, progress_at old.records row)
@@ -269,31 +266,31 @@ offered-in_time left port at (Selecting time) in_time = All-nil (λ (x : Moment 
 -- the bounds hold after a frame became eligible
 pub offered-bounds : {T : Type 0} {key : T → ℕ → ℕ → ℕ} {wait : ℕ → ℕ → ℕ} {network : DeclaredNetwork}
     {releases : List Release} {old new : Course T} {now : Moment} {row : ℕ} {entries more : List (Moment × Event)}
-    → IsNext key wait network releases old now (Eligibility row) entries
+    → IsEligibleNow key wait network releases old now row entries
     → BecomesEligible key network old new now row more → EndsInTime new (more ++ entries)
 offered-bounds {T} {key} {wait} {network} {releases} {old} {new} {now} {row} {entries} {more} next step =
     let s : PortState T = port_state_at old step.port in
     let InTime : Moment × Event → Type 0 = λ (x : Moment × Event). x.0.at.0 + all_left new ≤ horizon in
     let less : all_left new ≤ all_left old = omega (arith, offered-left most_left next step) in
     let first : now.at.0 + all_left old ≤ horizon =
-    All-head (λ (x : Moment × Event). x.0.at.0 + all_left old ≤ horizon) (now, Eligibility row) entries
-    next.holds.bounds.each in
+    All-head (λ (x : Moment × Event). x.0.at.0 + all_left old ≤ horizon)
+    (eligible_moment row now.at, Eligibility row) entries next.holds.bounds.each in
     let within : step.port < length old.ports = omega (arith, offered-within next step, next.holds.shape.ports) in
     let ends : last_end s.sent + all_left old ≤ horizon =
     next.holds.bounds.ends step.port (opened 0 [] old.tie) within in
     let same : last_end step.standing.sent ≡ last_end s.sent =
     ap (λ (t : PortState T). last_end t.sent) step.rest in
-    in-time new more next (ap (λ (c : Course T). c.last) step.becomes) less
+    in-time new more next.holds.bounds (ap (λ (c : Course T). c.last.at) step.becomes) less
     (subst (All InTime) (sym step.brings)
     (offered-in_time (all_left new) step.port step.at (turn_at old step.port)
     (λ rests. (let at = offered-at next step rests in omega (arith, at, first, ends, less)))))
-    (set-ports new step.port step.standing next (ap (λ (c : Course T). c.ports) step.becomes) less
+    (set-ports new step.port step.standing next.holds.bounds (ap (λ (c : Course T). c.ports) step.becomes) less
     (omega (arith, same, ends, less)))
 
 -- and fewer steps are left
 pub offered-less : {T : Type 0} {key : T → ℕ → ℕ → ℕ} {wait : ℕ → ℕ → ℕ} {network : DeclaredNetwork}
     {releases : List Release} {old new : Course T} {now : Moment} {row : ℕ} {entries more : List (Moment × Event)}
-    → IsNext key wait network releases old now (Eligibility row) entries
+    → IsEligibleNow key wait network releases old now row entries
     → BecomesEligible key network old new now row more → steps_left new < steps_left old
 offered-less next step = let left = offered-left events_left next step in omega arith
 
@@ -426,12 +423,12 @@ selects-bounds {T} {key} {wait} {network} {releases} {old} {new} {now} {port} {e
     let first : now.at.0 + all_left old ≤ horizon =
     All-head (λ (x : Moment × Event). x.0.at.0 + all_left old ≤ horizon) (now, Selection port) entries
     next.holds.bounds.each in
-    in-time new more next (ap (λ (c : Course T). c.last) step.becomes) less
+    in-time new more next.holds.bounds (ap (λ (c : Course T). c.last.at) step.becomes) less
     (near-entries new more was is next (omega (arith, left))
     (subst (λ (es : List (Moment × Event)). All Near es) (sym step.brings)
     (All-append Near step.move.entries (selections port step.turn) takes.each
     (λ k d h. omega (arith, again k d h, soon, move)))))
-    (set-ports new port step.standing next (ap (λ (c : Course T). c.ports) step.becomes) less
+    (set-ports new port step.standing next.holds.bounds (ap (λ (c : Course T). c.ports) step.becomes) less
     (omega (arith, last, soon, left, move, first)))
 
 -- and fewer steps are left

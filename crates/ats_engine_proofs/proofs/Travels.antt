@@ -34,10 +34,10 @@ use Rattle.ats_engine_steps.specs.Ports.{port_state_at, IsHeld}
 use Rattle.ats_engine_steps.specs.Steps.{Comes, BecomesEligible, Selects, verdict_now, class_behind, came}
 use Rattle.ats_engine_steps.specs.Steps.{IsLegAt, Move, set_each, stage_by}
 use Rattle.ats_engine_steps.specs.declared.event.Event.{Event}
-use Rattle.ats_engine_steps.specs.declared.event.Event.TheVariants.{Arrival, Eligibility, Selection}
+use Rattle.ats_engine_steps.specs.declared.event.Event.TheVariants.{Arrival, Selection}
 use Rattle.ats_engine_steps.specs.declared.stage.Stage.{Stage}
 use Rattle.ats_engine_steps.specs.declared.stage.Stage.TheVariants.{Coming, Due, Waiting, Over}
-use Rattle.ats_engine_proofs.specs.Next.{IsNext, IsArrival, IsCrossing}
+use Rattle.ats_engine_proofs.specs.Next.{IsEligibleNow, IsNext, IsArrival, IsCrossing}
 use Rattle.ats_engine_proofs.proofs.Begun.{IsApart, next-or-apart, rows_begun}
 use Rattle.ats_engine_proofs.proofs.Gathered.{hops_at, crossings_at, handed_in, sent_part, crossings_part}
 use Rattle.ats_engine_proofs.proofs.Gathered.{handed_part, sent-gathered, crossed-gathered, handed_on-gathered}
@@ -276,7 +276,7 @@ comes-elsewhere {network = network} {old = old} {new = new} {now = now} {row = r
 module _ {T : Type 0} {key : T → ℕ → ℕ → ℕ} {wait : ℕ → ℕ → ℕ} {network : DeclaredNetwork} {releases : List Release}
     {old new : Course T} {now : Moment} {row : ℕ} {entries more : List (Moment × Event)} where
   -- a frame that becomes eligible goes on along the leg
-  offered-advances : IsNext key wait network releases old now (Eligibility row) entries
+  offered-advances : IsEligibleNow key wait network releases old now row entries
       → BecomesEligible key network old new now row more → Advances old new row Waiting (progress_at old.records row)
   offered-advances next step =
       record {
@@ -287,7 +287,7 @@ module _ {T : Type 0} {key : T → ℕ → ℕ → ℕ} {wait : ℕ → ℕ → 
       }
 
   -- which changes no transmission of the run so far
-  pub offered-sent : IsNext key wait network releases old now (Eligibility row) entries
+  pub offered-sent : IsEligibleNow key wait network releases old now row entries
       → BecomesEligible key network old new now row more → (other : ℕ)
       → sent_so_far network new other ≡ sent_so_far network old other
   offered-sent next step other =
@@ -296,7 +296,7 @@ module _ {T : Type 0} {key : T → ℕ → ℕ → ℕ} {wait : ℕ → ℕ → 
       ∙ sym (sent-gathered network old other)
 
   -- no crossing
-  pub offered-crossings : IsNext key wait network releases old now (Eligibility row) entries
+  pub offered-crossings : IsEligibleNow key wait network releases old now row entries
       → BecomesEligible key network old new now row more → (other : ℕ)
       → crossings_so_far network new other ≡ crossings_so_far network old other
   offered-crossings next step other =
@@ -310,7 +310,7 @@ module _ {T : Type 0} {key : T → ℕ → ℕ → ℕ} {wait : ℕ → ℕ → 
       ∙ sym (crossed-gathered network old other)
 
   -- and nothing that was handed on
-  pub offered-handed : IsNext key wait network releases old now (Eligibility row) entries
+  pub offered-handed : IsEligibleNow key wait network releases old now row entries
       → BecomesEligible key network old new now row more → (other class : ℕ)
       → handed_so_far network new other class ≡ handed_so_far network old other class
   offered-handed next step other class =

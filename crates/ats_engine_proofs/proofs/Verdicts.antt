@@ -64,7 +64,7 @@ soon_on declared residence_ns time empty arrival octets most =
 of_kind : (kind : Kind) → node.residence_of kind ≤ MAX_RESIDENCE_NS
     → unwrap_or (residence_at kind) 0 ≤ MAX_RESIDENCE_NS
 of_kind Station most = omega arith
-of_kind (Bridge least greatest residence) most = most
+of_kind (Bridge least greatest residence clock_ppm clock_step_ps) most = most
 
 node_most : (nodes : List Node) (n : ℕ) → All IsNode nodes
     → node.residence_of (node_at nodes n).kind ≤ MAX_RESIDENCE_NS

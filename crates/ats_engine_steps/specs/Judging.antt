@@ -9,7 +9,7 @@ use Rattle.ats_group.specs.GroupsState.{GroupsState, AreGroups, time_at, empty_a
 use Rattle.ats_schedulers.specs.Schedulers.{group_behind, residences_of, members_of, leg_ports, scheduler_of}
 use Rattle.ats_schedulers.specs.Schedulers.{IsHop}
 use Rattle.ats_trace.specs.Projections.{Handed}
-use Rattle.ats_trace.specs.Eligibility.{IsPassed, declared_by, offer_of, residence_of_groups}
+use Rattle.ats_trace.specs.Eligibility.{IsPassed, offer_of, residence_of_groups, scheduled_by}
 use Rattle.ats_engine_steps.specs.Course.{Course, handed_so_far}
 
 -- the groups are those of the network
@@ -32,10 +32,10 @@ pub record IsGroupOf {T : Type 0} (network : DeclaredNetwork) (course : Course T
   pub same : IsPermutation (handed_so_far network course port class) arrivals
   pub in_order : IsNonDecreasing (map (λ (h : Handed). h.crossing.arrival) arrivals)
   pub verdicts : map (λ (h : Handed). h.verdict) arrivals
-      ≡ verdicts_of (declared_by network) (residence_of_groups network port) (first (declared_by network))
+      ≡ verdicts_of (scheduled_by network port) (residence_of_groups network port) (first (scheduled_by network port))
       (map offer_of arrivals)
   pub state : IsStateOf network course.groups port class
-      (state_after (declared_by network) (residence_of_groups network port) (first (declared_by network))
+      (state_after (scheduled_by network port) (residence_of_groups network port) (first (scheduled_by network port))
       (map offer_of arrivals))
   pub reached : All (λ (h : Handed). h.crossing.arrival ≤ course.last.at.0) arrivals
 

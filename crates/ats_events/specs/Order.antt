@@ -4,7 +4,7 @@ use Rattle.ats_events.specs.declared.moment.Moment.{Moment}
 -- the numbers of this moment fit the types of its fields
 pub record IsInRange (a : Moment) : Type 0 where
   pub at : a.at.0 < 2 ^ 64
-  pub phase : a.phase < 2 ^ 8
+  pub phase : a.phase < 2 ^ 32
   pub id : a.id < 2 ^ 32
 
 -- no moment is before itself

@@ -8,6 +8,7 @@ use ats_num::Ps;
 #[derive(Clone, Copy, Debug, PartialEq, Eq)]
 pub struct Moment {
     pub at: Ps,
-    pub phase: u8,
+    // phase and number stand as the lower half of one number, so that they are read and copied at once
     pub id: u32,
+    pub phase: u32,
 }

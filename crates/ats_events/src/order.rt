@@ -115,9 +115,9 @@ fn is_before_by_rank(a: &Moment, b: &Moment, x: u32, y: u32) -> bool
 
 /// Time, phase and rank of a moment as the digits of one number, so that moments are compared at once: which of two is
 /// before is seldom foreseen, and a test of each would be guessed.
-fn as_number(at: Ps, phase: u8, rank: u32) -> u128
+fn as_number(at: Ps, phase: u32, rank: u32) -> u128
     ensures value { result ≡ number_of at.0 phase rank }
-    ensures phase { phase < 2 ^ 8 }
+    ensures phase { phase < 2 ^ 32 }
     ensures rank { rank < 2 ^ 32 }
 {
     u128::from(at.0) * TIME + u128::from(phase) * PHASE + u128::from(rank)

@@ -1,4 +1,4 @@
-use Rattle.std.specs.Prelude.{◌≢◌, ◌<◌, ◌^◌, List, All, AllPairs}
+use Rattle.std.specs.Prelude.{◌≢◌, ℕ, ◌+◌, ◌*◌, ◌<◌, ◌^◌, List, All, AllPairs}
 use Rattle.ats_queue.specs.declared.queued.Queued.{Queued}
 
 -- no frame is held twice
@@ -14,3 +14,7 @@ pub record IsInRange (x : Queued) : Type 0 where
 pub record IsKept (held : List Queued) : Type 0 where
   pub distinct : AreDistinct held
   pub in_range : All IsInRange held
+
+-- eligibility time and key of a frame as the digits of one number
+abbrev pub number_of : ℕ → ℕ → ℕ
+number_of eligible key = eligible * 2 ^ 64 + key

@@ -29,7 +29,7 @@ fn put<O: TimeOrder>(agenda: &mut Agenda<O, u32>, moment: Moment)
     agenda.insert(moment, moment.id);
 }
 
-fn moment(at: u64, phase: u8, id: u32) -> Moment
+fn moment(at: u64, phase: u32, id: u32) -> Moment
     ensures time { result.at.0 ≡ at }
     ensures id { result.id ≡ id }
 {
