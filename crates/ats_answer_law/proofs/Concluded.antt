@@ -17,7 +17,7 @@ use Rattle.ats_bound.specs.Least.{least_certificate}
 use Rattle.ats_bound.specs.Reason.{reason_of}
 use Rattle.ats_bound.proofs.LeastHolds.{least_certificate_holds}
 use Rattle.ats_bound.proofs.NoneHolds.{reason_leaves_none}
-use Rattle.ats_soundness_law.proofs.Soundness.{certificate_is_sound}
+use Rattle.ats_soundness_law.proofs.TrueTime.{certificate_is_sound}
 use Rattle.ats_checker.proofs.InTime.{holding_is_in_time}
 use Rattle.ats_requests.specs.Laws.{IsCertified}
 use Rattle.ats_buffer.specs.Buffer.{buffer_at}
@@ -314,6 +314,11 @@ bounds = record {
     λ is. record { rules = is.rules; free = none_against network (reason_of network) refl is.rules is.holds },
     bounded network,
   );
+  sound = λ network rows. (
+    λ is. (is.served, is.contained),
+    λ each. record { served = each.0; contained = each.1 },
+  );
+  in_time = λ network rows. (λ each. each, λ each. each);
 }
 
 pub conclusions_are_meant : ConclusionsAreMeant

@@ -1,7 +1,8 @@
 -- What the words of laws and clauses come to.
 use Rattle.std.proofs.Common.{◌≡◌, ℕ, List, [], ◌∷◌, ◌⊎◌, inl, inr, refl, sym, arith}
-use Rattle.std.specs.Prelude.{Contains}
-use Rattle.std.proofs.lemmas.List.Elements.{Contains-append_right}
+use Rattle.std.specs.Prelude.{Contains, slice_index_or}
+use Rattle.std.proofs.lemmas.List.Elements.{All-contains, Contains-append_right, Contains-get_or}
+use Rattle.ats_io.specs.Outside.{Rose}
 use Rattle.ats_command_input.specs.Command.{Command, Shape, Show, Bound, Explain, Check, Replay, Unknown, file_words}
 use Rattle.ats_command_input.specs.Command.{Capture, Conform, Admit, Generate, Settings, Buffers, Peaks}
 use Rattle.ats_command_input.specs.Command.{LrqBound, LrqCheck, LrqShape, Record, Witness, Releases, Fit}
@@ -84,6 +85,12 @@ nothing_less_is_meant = record {
   files = record {
     risen = λ told command old new rose. rose;
     reached = reached;
+    calm = λ command old new. (
+      λ calm name among. All-contains (λ (name : List ℕ). ¬ Rose (old name) (new name)) (file_words command) name calm
+          among,
+      λ none k d below. none (slice_index_or (file_words command) k d)
+          (Contains-get_or (file_words command) k d below),
+    );
     texts = λ words. refl;
     words_name = λ words. refl;
   };

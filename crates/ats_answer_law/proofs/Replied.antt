@@ -9,8 +9,9 @@ use Rattle.ats_network.specs.Tables.{stream_names}
 use Rattle.ats_certificate.specs.Certificate.{bound_along}
 use Rattle.ats_tally.specs.declared.reason.Reason.{Reason}
 use Rattle.ats_bound.specs.Least.{least_certificate}
-use Rattle.ats_command_law.specs.Answered.{AreFirstReasons, CameIn, IsAdmitted, IsFull}
-use Rattle.ats_answer_law.specs.Replied.{AdmitIsMeant, BoundIsMeant, HasNoRoom, IsReasonAgainst, LowestIsMeant}
+use Rattle.ats_command_law.specs.Answered as told
+use Rattle.ats_command_law.specs.Answered.{AreFirstReasons, CameIn, IsAdmitted}
+use Rattle.ats_answer_law.specs.Replied.{AdmitIsMeant, BoundIsMeant, IsPastLimit, IsReasonAgainst, LowestIsMeant}
 use Rattle.ats_answer_law.specs.Replied.{RepliesAreMeant, StandsLast, WithdrawIsMeant, of_class}
 
 -- a stream that came in with a class stands last with it
@@ -41,10 +42,11 @@ stands_itself old new stream class sum is =
 not_among : (names : List (List ℕ)) (name : List ℕ) → All (λ other. other ≢ name) names → ¬ Contains names name
 not_among names name differ among = All-contains (λ other. other ≢ name) names name differ among refl
 
-no_room : (network : DeclaredNetwork) (stream : DeclaredStream) → IsFull network stream → HasNoRoom network stream
-no_room network stream is = record {
+over_limit : (network : DeclaredNetwork) (stream : DeclaredStream) → told.IsOverLimit network stream
+    → IsPastLimit network stream
+over_limit network stream is = record {
   new_name = not_among (names_of (senders_of network)) stream.name is.free;
-  many = is.full;
+  over = is.over;
 }
 
 -- the reason at a place among some
@@ -73,7 +75,7 @@ admit = record {
   admitted = λ old new stream class sum is.
       (ap (λ (s : DeclaredStream). s.classes) is.asked, stands_itself old new stream class sum is);
   taken = λ old new stream is. (is.same, is.cause);
-  full = λ old new stream is. (is.same, no_room old stream is.cause);
+  full = λ old new stream is. (is.same, over_limit old stream is.cause);
   because = λ old new stream reason is.
       (is.same, record { rules = is.cause.rules; first = is.cause.first });
   not_withdrawn = λ old new stream is. is;
@@ -91,7 +93,7 @@ lowest = record {
         (let one = is.lower lower some below in (one.0, record { rules = one.1.rules; first = one.1.first })),
   );
   taken = λ old new stream is. (is.same, is.cause);
-  full = λ old new stream is. (is.same, no_room old stream is.cause);
+  full = λ old new stream is. (is.same, over_limit old stream is.cause);
   no_class = λ old new stream reasons is.
       (is.same, is.cause.seven, λ n below. at_each old stream reasons n is.cause below);
   not_withdrawn = λ old new stream is. is;

@@ -7,8 +7,9 @@ use Rattle.ats_network.specs.Class.{class_at, port_before}
 use Rattle.ats_network.specs.Network.{DeclaredNetwork, IsNetwork}
 use Rattle.ats_network.specs.Senders.{sender_at}
 use Rattle.ats_trace.specs.Journey.{Travel}
-use Rattle.ats_trace.specs.Run.{HasReleases, IsLegal, IsRunBy, releases_of}
-use Rattle.ats_trace.specs.Talker.{KeepsBuckets, frames_of, talker_of}
+use Rattle.ats_trace.specs.Clocks.{IsLegal}
+use Rattle.ats_trace.specs.Run.{HasReleases, IsRunBy, releases_of}
+use Rattle.ats_trace.specs.Talker.{KeepsBuckets, frames_of, read_by, talker_of}
 use Rattle.ats_trace.specs.Ways.{listener_count, route_to}
 use Rattle.ats_trace.specs.declared.journey.Release.{Release}
 use Rattle.ats_certificate.specs.Certificate.{Holds}
@@ -40,6 +41,7 @@ use Rattle.ats_command_law.specs.ConformBounds.{AreTextsWithin}
 use Rattle.ats_command_law.specs.FitMeaning.{IsJustEnough, StreamsHaveBursts}
 use Rattle.ats_command_law.specs.GenerateMeaning.{IsMadeRun}
 use Rattle.ats_command_law.specs.ReplayMeaning.{AreTextsOf}
+use Rattle.ats_answer_law.specs.Accepted.{EachIsContainedByClocks, EachIsInTimeByClocks, EachIsServedByClocks}
 use Rattle.ats_answer_law.specs.Due.{Told}
 use Rattle.ats_answer_law.specs.Meant.{IsServedInTime, IsServedInTimeTo}
 use Rattle.ats_answer_law.specs.NoneMade.{IsWhyNoneMade}
@@ -155,24 +157,26 @@ MadeRunsAreMeant = (net bytes : List ℕ) (seed count : ℕ) (text : List ℕ) (
     (releases : List Release) (run : List Travel) → IsMadeRun net bytes seed count text network releases run
     ↔ IsMadeAndPrinted net bytes seed count text network releases run
 
--- where a port leaves a bridge, this keeps its buckets in a run
-abbrev pub IsKeptBehind : DeclaredNetwork → List Travel → ℕ → Type 0
-IsKeptBehind network run port = IsBridgeAt network.topology (port_at network.topology.ports port).from
-    → KeepsBuckets network (releases_of run) (port_at network.topology.ports port).from
+-- where a port leaves a bridge, this keeps its buckets in a legal run, by its own clock
+abbrev pub IsKeptBehind : (network : DeclaredNetwork) (run : List Travel) → IsLegal network run → ℕ → Type 0
+IsKeptBehind network run legal port = IsBridgeAt network.topology (port_at network.topology.ports port).from
+    → KeepsBuckets network (read_by (legal.clocks (port_at network.topology.ports port).from) (releases_of run))
+    (port_at network.topology.ports port).from
 
 -- the talker of a stream keeps its buckets, and so does the bridge that a port leaves, and the one that the port before
 -- it on the stream's routes leaves
-abbrev pub AreKeptTo : DeclaredNetwork → List Travel → ℕ → ℕ → Type 0
-AreKeptTo network run i port =
-    KeepsBuckets network (releases_of run) (talker_of network i) × IsKeptBehind network run port
-    × ((q : ℕ) → port_before (sender_at network i) port ≡ Some q → IsKeptBehind network run q)
+abbrev pub AreKeptTo : (network : DeclaredNetwork) (run : List Travel) → IsLegal network run → ℕ → ℕ → Type 0
+AreKeptTo network run legal i port =
+    KeepsBuckets network (read_by (legal.clocks (talker_of network i)) (releases_of run)) (talker_of network i)
+    × IsKeptBehind network run legal port
+    × ((q : ℕ) → port_before (sender_at network i) port ≡ Some q → IsKeptBehind network run legal q)
 
 -- at no time of a legal run does a port hold more bits of a class than so many, where buckets are kept so for each
 -- stream that has the class there
 abbrev pub NeverHoldsMore : DeclaredNetwork → ℕ → ℕ → ℕ → Type 0
-NeverHoldsMore network port class bits = (run : List Travel) → IsLegal network run
+NeverHoldsMore network port class bits = (run : List Travel) → (legal : IsLegal network run)
     → ((i : ℕ) → i < length network.streams → class_at (sender_at network i) port ≡ class
-    → AreKeptTo network run i port)
+    → AreKeptTo network run legal i port)
     → (time : ℕ) → occupancy network run port class time ≤ bits
 
 -- the rows hold; there is a number for each, which is the buffer of its port and class, and no port ever holds more of
@@ -191,12 +195,17 @@ BuffersAreMeant = (network : DeclaredNetwork) (rows : List Row) (buffers : List 
     → AreBuffers network rows buffers ↔ AreNeverExceeded network rows buffers
 
 -- a network is soundly bounded where it is one against which there is no reason: its least certificate holds, is sound,
--- and by it frames are in time
+-- and by it frames are in time. Rows are sound exactly where frames are served and contained, and frames are in time by
+-- them where each is, in every legal run, by the clocks of the nodes there
 pub record SoundBoundsAreMeant : Type 0 where
   pub parts : (network : DeclaredNetwork) → IsSoundlyBounded network
       → IsNetwork network × Holds network (least_certificate network) × IsSound network (least_certificate network)
       × FramesAreInTime network (least_certificate network)
   pub exactly : (network : DeclaredNetwork) → IsSoundlyBounded network ↔ IsCertified network
+  pub sound : (network : DeclaredNetwork) (rows : List Row) → IsSound network rows
+      ↔ (EachIsServedByClocks network rows × EachIsContainedByClocks network rows)
+  pub in_time : (network : DeclaredNetwork) (rows : List Row) → FramesAreInTime network rows
+      ↔ EachIsInTimeByClocks network rows
 
 -- of all of these
 pub record ConclusionsAreMeant : Type 0 where

@@ -1,4 +1,5 @@
-use Rattle.std.specs.Prelude.{◌≡◌, ℕ, ◌<◌, ◌≤◌, List, length, map, String, string_bytes, All, Contains, Some, slice_get}
+use Rattle.std.specs.Prelude.{◌≡◌, ◌↔◌, ℕ, ◌<◌, ◌≤◌, List, length, map, String, string_bytes, All, Contains, Some}
+use Rattle.std.specs.Prelude.{slice_get}
 use Rattle.std.specs.declared.alloc.Global.{Global}
 use Rattle.ats_num.specs.Wire.{bits_of}
 use Rattle.ats_io.specs.Outside.{Rose}
@@ -13,10 +14,11 @@ use Rattle.ats_network.specs.Bridges.{IsBridgeAt}
 use Rattle.ats_network.specs.Network.{DeclaredNetwork}
 use Rattle.ats_network.specs.Sender.{stream_sender}
 use Rattle.ats_network.specs.Senders.{sender_at}
-use Rattle.ats_trace.specs.Eligibility.{declared_by, residence_of_groups}
+use Rattle.ats_trace.specs.Eligibility.{declared_by, residence_of_groups, scheduled_by}
 use Rattle.ats_trace.specs.Journey.{Travel}
-use Rattle.ats_trace.specs.Run.{IsLegal, releases_of}
-use Rattle.ats_trace.specs.Talker.{talker_of, KeepsBuckets}
+use Rattle.ats_trace.specs.Clocks.{IsLegal}
+use Rattle.ats_trace.specs.Run.{releases_of}
+use Rattle.ats_trace.specs.Talker.{talker_of, KeepsBuckets, read_by}
 use Rattle.ats_trace.specs.Ways.{listener_count, route_to, way_to}
 use Rattle.ats_trace.specs.declared.journey.Release.{Release}
 use Rattle.ats_certificate.specs.Certificate.{Holds}
@@ -35,7 +37,7 @@ use Rattle.ats_replay.specs.Summary.{summary_for}
 use Rattle.ats_verdict_text.specs.Stream.{DeclaredStream}
 use Rattle.ats_command_input.specs.Command.{Command, command_of, file_words}
 use Rattle.ats_command_input.specs.Named.{named, texts_of}
-use Rattle.ats_command_due.specs.Calls.{ReadRose}
+use Rattle.ats_command_due.specs.Calls.{IsCalm, ReadRose}
 use Rattle.ats_command_due.specs.Due.{Reaches}
 use Rattle.ats_command_due.specs.Generated.{least_sums}
 use Rattle.ats_command_law.specs.BufferMeaning.{IsRoomAt}
@@ -105,19 +107,21 @@ pub record DelaysAreMeant : Type 0 where
 -- kind lets through conforms to the rate and the longest frame
 pub record BridgesAreMeant : Type 0 where
   pub room : (network : DeclaredNetwork) (port class bits : ℕ) → IsRoomAt network port class bits
-      → (run : List Travel) → IsLegal network run
+      → (run : List Travel) → (legal : IsLegal network run)
       → ((i : ℕ) → i < length network.streams → class_at (sender_at network i) port ≡ class
-      → KeepsBuckets network (releases_of run) (talker_of network i)
+      → KeepsBuckets network (read_by (legal.clocks (talker_of network i)) (releases_of run)) (talker_of network i)
       × (IsBridgeAt network.topology (port_at network.topology.ports port).from
-      → KeepsBuckets network (releases_of run) (port_at network.topology.ports port).from)
+      → KeepsBuckets network (read_by (legal.clocks (port_at network.topology.ports port).from) (releases_of run))
+      (port_at network.topology.ports port).from)
       × ((q : ℕ) → port_before (sender_at network i) port ≡ Some q
       → IsBridgeAt network.topology (port_at network.topology.ports q).from
-      → KeepsBuckets network (releases_of run) (port_at network.topology.ports q).from))
+      → KeepsBuckets network (read_by (legal.clocks (port_at network.topology.ports q).from) (releases_of run))
+      (port_at network.topology.ports q).from))
       → (time : ℕ) → occupancy network run port class time ≤ bits
   pub groups : (one other : DeclaredNetwork) (settings : List Setting) → JudgeAlike one other settings
       → (port : ℕ) (offers : List Offer) → All (IsKnown one other settings port) offers
-      → ats_judge (declared_by one) (residence_of_groups one port) offers
-      ≡ ats_judge (declared_by other) (residence_of_groups other port) offers
+      → ats_judge (scheduled_by one port) (residence_of_groups one port) offers
+      ≡ ats_judge (scheduled_by other port) (residence_of_groups other port) offers
   pub sizes : (one other : DeclaredNetwork) (settings : List Setting) → JudgeAlike one other settings
       → (port : ℕ) (offer : Offer) → IsNamed settings offer.member port
       → IsNotShort one offer → IsNotShort other offer
@@ -128,13 +132,16 @@ pub record BridgesAreMeant : Type 0 where
       → Conforms (declared_in shape.streams stream).rate (bits_of (declared_in shape.streams stream).max_octets)
       (passed_by lrq_judge (declared_in shape.streams) shape.residence_ns (map offer_of shape.frames) stream)
 
--- of files and words: a fault came at a file that the command comes to, and that its words name; and the words of the
--- program are those of the command table, byte for byte
+-- of files and words: a fault came at a file that the command comes to, and that its words name; all is calm exactly
+-- where no count of a file that they name rose, whatever it was before; and the words of the program are those of the
+-- command table, byte for byte
 pub record FilesAreMeant : Type 0 where
   pub risen : (told : Told) (command : Command) (old new : List ℕ → ℕ) → ReadRose told command old new
       → (name : List ℕ) × Reaches told command name × Rose (old name) (new name)
   pub reached : (told : Told) (command : Command) (name : List ℕ) → Reaches told command name
       → Contains (file_words command) name
+  pub calm : (command : Command) (old new : List ℕ → ℕ) → IsCalm command old new
+      ↔ ((name : List ℕ) → Contains (file_words command) name → ¬ Rose (old name) (new name))
   pub texts : (words : List (String Global)) → texts_of words ≡ map (λ (word : String Global). string_bytes word) words
   pub words_name : (words : List (String Global))
       → named words ≡ command_of (map (λ (word : String Global). string_bytes word) words)

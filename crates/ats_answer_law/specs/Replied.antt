@@ -2,6 +2,7 @@ use Rattle.std.specs.Prelude.{◌≡◌, ◌↔◌, ◌⊎◌, ℕ, ◌+◌, ◌
 use Rattle.std.specs.Prelude.{Some, Ok, IsErr, slice_get}
 use Rattle.ats_streams.specs.Stream.{DeclaredStream}
 use Rattle.ats_network.specs.Network.{DeclaredNetwork, IsNetwork, names_of, ports_together, senders_of}
+use Rattle.ats_network.specs.Rates.{HasRates}
 use Rattle.ats_network.specs.Tables.{stream_names}
 use Rattle.ats_certificate.specs.Certificate.{Holds, bound_along}
 use Rattle.ats_certificate.specs.declared.row.Row.{Row}
@@ -47,10 +48,11 @@ pub record IsReasonAgainst (network : DeclaredNetwork) (stream : DeclaredStream)
   pub first : IsFirstReason (and_then network stream) reason
 
 -- no sender of a network has a stream's name, and there are 4,096 streams, or with this one they would have over 65,536
--- ports together
-pub record HasNoRoom (network : DeclaredNetwork) (stream : DeclaredStream) : Type 0 where
+-- ports together, or a rate or a burst of it at one of its ports is over what a scheduler may have
+pub record IsPastLimit (network : DeclaredNetwork) (stream : DeclaredStream) : Type 0 where
   pub new_name : ¬ Contains (names_of (senders_of network)) stream.name
-  pub many : (4096 ≤ length network.streams) ⊎ (65536 < ports_together network.streams + length stream.ports)
+  pub over : (4096 ≤ length network.streams) ⊎ (65536 < ports_together network.streams + length stream.ports)
+      ⊎ (¬ HasRates network.topology stream)
 
 -- to a request to admit a stream with its class
 pub record AdmitIsMeant : Type 0 where
@@ -61,7 +63,7 @@ pub record AdmitIsMeant : Type 0 where
       → AnswerTells old new (Admit stream) (Refused NameTaken)
       → (new ≡ old) × Contains (names_of (senders_of old)) stream.name
   pub full : (old new : DeclaredNetwork) (stream : DeclaredStream) → AnswerTells old new (Admit stream) (Refused Limit)
-      → (new ≡ old) × HasNoRoom old stream
+      → (new ≡ old) × IsPastLimit old stream
   pub because : (old new : DeclaredNetwork) (stream : DeclaredStream) (reason : Reason)
       → AnswerTells old new (Admit stream) (Refused (Because reason))
       → (new ≡ old) × IsReasonAgainst old stream reason
@@ -84,7 +86,7 @@ pub record LowestIsMeant : Type 0 where
       → AnswerTells old new (Lowest stream) (Refused NameTaken)
       → (new ≡ old) × Contains (names_of (senders_of old)) stream.name
   pub full : (old new : DeclaredNetwork) (stream : DeclaredStream) → AnswerTells old new (Lowest stream) (Refused Limit)
-      → (new ≡ old) × HasNoRoom old stream
+      → (new ≡ old) × IsPastLimit old stream
   pub no_class : (old new : DeclaredNetwork) (stream : DeclaredStream) (reasons : List Reason)
       → AnswerTells old new (Lowest stream) (Refused (NoClass reasons))
       → (new ≡ old) × (length reasons ≡ 7)

@@ -215,7 +215,7 @@ pub fn none_are_made_for_faults()
 /// What the words come to in which the laws of `ats_command_law` say what follows: of delays, each frame is served and
 /// in time whose own talker and bridges keep their buckets, and so for all, for the least bounds, and for each worst
 /// delay; of bridges, how much room there is, and what those judge alike that are set alike. And a fault came at a file
-/// that the words of the command name.
+/// that the words of the command name, and all is calm exactly where none came at these.
 pub fn nothing_less_is_meant()
     ensures { NothingLessIsMeant }
 {}
@@ -229,7 +229,8 @@ pub fn just_one_is_left()
 /// What words come to that the laws of `ats_command_law` conclude, and no law asks for: that a burst is just enough,
 /// and each stream has one; why no releases are made; that the texts of `check`, `replay` and `generate` are those of a
 /// network, rows, releases and a run, whose delays are within what is printed; that buffers are room for all that a
-/// port holds; and that a network is soundly bounded. Each part is written out.
+/// port holds; that a network is soundly bounded; and that rows are sound, and frames in time by them, by the clocks of
+/// nodes. Each part is written out.
 pub fn conclusions_are_meant()
     ensures { ConclusionsAreMeant }
 {}

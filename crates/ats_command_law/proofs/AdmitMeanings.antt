@@ -14,7 +14,7 @@ use Rattle.ats_bound.specs.Reason.{reason_of}
 use Rattle.ats_bound.proofs.FirstReason.{each_reason_is_the_first}
 use Rattle.ats_bound.proofs.LeastHolds.{least_certificate_holds}
 use Rattle.ats_bound.proofs.NoneHolds.{reason_leaves_none}
-use Rattle.ats_soundness_law.proofs.Soundness.{certificate_is_sound}
+use Rattle.ats_soundness_law.proofs.TrueTime.{certificate_is_sound}
 use Rattle.ats_checker.proofs.InTime.{holding_is_in_time}
 use Rattle.ats_verdict_text.specs.Text.{reason_text}
 use Rattle.ats_requests.specs.Laws.{IsCertified}

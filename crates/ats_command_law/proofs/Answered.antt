@@ -15,7 +15,10 @@ use Rattle.ats_topology.proofs.Known.{name_there}
 use Rattle.ats_streams.specs.Stream.{DeclaredStream, with_class}
 use Rattle.ats_network.specs.Edits.{less_at, no_stream, without_named}
 use Rattle.ats_network.specs.Network.{DeclaredNetwork, IsNetwork, names_of, ports_together, senders_of}
-use Rattle.ats_network.specs.Pushes.{is_full, is_name_taken, with_stream}
+use Rattle.ats_network.specs.Pushes.{is_beyond, is_name_taken, with_stream}
+use Rattle.ats_network.specs.Rates.{HasRates, is_overrated}
+use Rattle.ats_network.specs.Sender.{stream_sender}
+use Rattle.ats_network.proofs.Rated.{overrated}
 use Rattle.ats_network.specs.Tables.{stream_names}
 use Rattle.ats_network.specs.declared.network.TheConstants.{MAX_PORTS_TOGETHER, MAX_STREAMS}
 use Rattle.ats_network.proofs.NameLemmas.{absent_differs}
@@ -40,7 +43,7 @@ use Rattle.ats_requests.proofs.Keeps.{entered, enters_with}
 use Rattle.ats_requests.proofs.Requests.{may_still, request_keeps}
 use Rattle.ats_command_law.specs.AdmitMeaning.{AreAnswers, network_after}
 use Rattle.ats_command_law.specs.Answered.{AdmitDenied, AdmitTells, AreFirstReasons, HasFirstReason}
-use Rattle.ats_command_law.specs.Answered.{IsFull, IsNameFree, IsNameTaken, LowestDenied, LowestTells, AnswerTells}
+use Rattle.ats_command_law.specs.Answered.{IsNameFree, IsNameTaken, IsOverLimit, LowestDenied, LowestTells, AnswerTells}
 use Rattle.ats_command_law.specs.Answered.{WithdrawTells}
 use Rattle.ats_command_law.proofs.OneClass.{AsksOneClass, IsOfOneClass}
 
@@ -62,34 +65,37 @@ name_free network name free =
     let names : List (List ℕ) = names_of (senders_of network) in
     absent_differs name names (is_some-false (place_of name names) free)
 
--- a network without room for one more stream is full
-no_room : (network : DeclaredNetwork) (stream : DeclaredStream) → is_name_taken network stream.name ≡ false
-    → is_full network.streams stream.ports ≡ true → IsFull network stream
-no_room network stream free full = record {
+-- a stream that is not taken though its name is free is over a limit
+over_limit : (network : DeclaredNetwork) (stream : DeclaredStream) → is_name_taken network stream.name ≡ false
+    → is_beyond network stream ≡ true → IsOverLimit network stream
+over_limit network stream free beyond = record {
   free = name_free network stream.name free;
-  full = by (nat_le MAX_STREAMS (length network.streams)) refl full;
+  over = by (nat_le MAX_STREAMS (length network.streams)) refl (nat_lt MAX_PORTS_TOGETHER together) refl beyond;
 }
   where
     together : ℕ
     together = ports_together network.streams + length stream.ports
 
     by : (many : Bool) → nat_le MAX_STREAMS (length network.streams) ≡ many
-        → (many || nat_lt MAX_PORTS_TOGETHER together) ≡ true
+        → (ports : Bool) → nat_lt MAX_PORTS_TOGETHER together ≡ ports
+        → ((many || ports) || is_overrated network.topology (stream_sender stream)) ≡ true
         → (MAX_STREAMS ≤ length network.streams) ⊎ (MAX_PORTS_TOGETHER < together)
-    by true e h = inl (leb-true MAX_STREAMS (length network.streams) e)
-    by false e h = inr (ltb-true MAX_PORTS_TOGETHER together h)
+        ⊎ (¬ HasRates network.topology stream)
+    by true e ports f h = inl (leb-true MAX_STREAMS (length network.streams) e)
+    by false e true f h = inr (inl (ltb-true MAX_PORTS_TOGETHER together f))
+    by false e false f h = inr (inr (overrated network.topology stream h))
 
--- what stands against an entry is a taken name, or that the network is full
+-- what stands against an entry is a taken name, or a limit
 entry_denies : (P : Denied → Type 0) (network : DeclaredNetwork) (stream : DeclaredStream)
-    → (IsNameTaken network stream.name → P NameTaken) → (IsFull network stream → P Limit)
+    → (IsNameTaken network stream.name → P NameTaken) → (IsOverLimit network stream → P Limit)
     → (denied : Denied) → entry_fault network stream ≡ Some denied → P denied
-entry_denies P network stream taken full denied h =
-    by (is_name_taken network stream.name) refl (is_full network.streams stream.ports) refl h
+entry_denies P network stream taken over denied h =
+    by (is_name_taken network stream.name) refl (is_beyond network stream) refl h
   where
-    by : (a : Bool) → is_name_taken network stream.name ≡ a → (b : Bool) → is_full network.streams stream.ports ≡ b
+    by : (a : Bool) → is_name_taken network stream.name ≡ a → (b : Bool) → is_beyond network stream ≡ b
         → cond a (Some NameTaken) (cond b (Some Limit) None) ≡ Some denied → P denied
     by true e b f h = subst P (same_Some NameTaken denied h) (taken (name_taken network stream.name e))
-    by false e true f h = subst P (same_Some Limit denied h) (full (no_room network stream e f))
+    by false e true f h = subst P (same_Some Limit denied h) (over (over_limit network stream e f))
     by false e false f h = absurd (none-some denied h)
 
 -- where nothing stands against the entry of a stream, the reason that is found against the network with it is the first

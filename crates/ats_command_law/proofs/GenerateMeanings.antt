@@ -7,8 +7,8 @@ use Rattle.ats_network.specs.Network.{DeclaredNetwork, IsNetwork}
 use Rattle.ats_bound.specs.Least.{least_certificate}
 use Rattle.ats_bound.proofs.LeastHolds.{least_certificate_holds}
 use Rattle.ats_bound.proofs.NoneHolds.{no_reason_held}
-use Rattle.ats_soundness_law.proofs.Soundness.{certificate_is_sound}
-use Rattle.ats_checker.proofs.InTime.{holding_is_in_time}
+use Rattle.ats_soundness_law.proofs.TrueTime.{certificate_is_sound, sound_in_true_time}
+use Rattle.ats_checker.proofs.InTime.{holding_is_in_time, in_time_in_true_time}
 use Rattle.ats_trace.specs.Journey.{Travel}
 use Rattle.ats_trace.specs.Run as runs
 use Rattle.ats_trace.specs.Talker.{talker_of, KeepsBuckets}
@@ -51,11 +51,13 @@ within_least network releases run rules keeps is (rows, held) journey there stre
     let kept : (node : ℕ) → KeepsBuckets network (runs.releases_of run) node =
     λ node. subst (λ (rs : List Release). KeepsBuckets network rs node) (sym is.exactly) (keeps node) in
     record {
-      served = λ m within. (certificate_is_sound network (least_certificate network) rules holds).served run legal
-          journey there (slice_get_within network.streams journey.release.sender stream named)
+      served = λ m within. (sound_in_true_time network (least_certificate network) rules
+          (certificate_is_sound network (least_certificate network) rules holds)).served run legal journey there
+          (slice_get_within network.streams journey.release.sender stream named)
           (kept (talker_of network journey.release.sender)) m within (λ k d h bridge. kept _);
-      in_time = λ m within. holding_is_in_time network (least_certificate network) rules holds run legal journey there
-          stream named (kept (talker_of network journey.release.sender)) m within (λ k d h bridge. kept _);
+      in_time = λ m within. in_time_in_true_time network (least_certificate network) rules
+          (holding_is_in_time network (least_certificate network) rules holds) run legal journey there stream named
+          (kept (talker_of network journey.release.sender)) m within (λ k d h bridge. kept _);
     }
 
 -- where the file declares a network

@@ -24,7 +24,7 @@ use Rattle.ats_checker.specs.declared.refusal.Refusal.{Refusal}
 use Rattle.ats_checker.proofs.FirstRefusal.{each_refusal_is_the_first}
 use Rattle.ats_checker.proofs.Refused.{refused_unless_holding}
 use Rattle.ats_verdict_text.specs.Text.{accepted_text, reason_text, refusal_text, refused_text}
-use Rattle.ats_soundness_law.proofs.Soundness.{certificate_is_sound}
+use Rattle.ats_soundness_law.proofs.TrueTime.{certificate_is_sound}
 use Rattle.ats_checker.proofs.InTime.{holding_is_in_time}
 use Rattle.ats_num.specs.Failure.{◌>>=◌}
 use Rattle.ats_command_input.specs.Answer.{Answer, input_answer, settled}

@@ -7,7 +7,8 @@ use Rattle.ats_network.specs.Sender.{Sender, stream_sender}
 use Rattle.ats_network.specs.Senders.{sender_at}
 use Rattle.ats_verdict_text.specs.Stream.{DeclaredStream}
 use Rattle.ats_group.specs.Judge.{bucket_rule}
-use Rattle.ats_checker.proofs.InTime.{sender_of_stream}
+use Rattle.ats_checker.proofs.InTime.{in_time_in_true_time, sender_of_stream}
+use Rattle.ats_soundness_law.proofs.TrueTime.{sound_in_true_time}
 use Rattle.ats_soundness_law.specs.Sound.{BridgesKeep}
 use Rattle.ats_certificate.specs.declared.row.Row.{Row}
 use Rattle.ats_trace.specs.Journey.{Travel}
@@ -107,10 +108,10 @@ delays_within net certificate net_bytes certificate_bytes checked order network 
     let on_way : BridgesKeep bucket_rule network (runs.releases_of run) (route_to s m) =
     λ k d h bridge. kept _ (bridges k d h bridge) in
     record {
-      served = accepted.sound.served run legal journey there
+      served = (sound_in_true_time network rows accepted.rules accepted.sound).served run legal journey there
           (slice_get_within network.streams journey.release.sender stream named)
           (kept (talker_of network journey.release.sender) keeps) m within on_way;
-      in_time = accepted.in_time run legal journey there stream named
+      in_time = in_time_in_true_time network rows accepted.rules accepted.in_time run legal journey there stream named
           (kept (talker_of network journey.release.sender) keeps) m
           (subst (λ (x : Sender). m < listener_count x) same within)
           (subst (λ (x : Sender). BridgesKeep bucket_rule network (runs.releases_of run) (route_to x m)) same on_way);

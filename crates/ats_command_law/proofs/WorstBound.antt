@@ -27,7 +27,7 @@ use Rattle.ats_bound.specs.Least.{least_certificate}
 use Rattle.ats_bound.specs.Reason.{reason_of}
 use Rattle.ats_bound.proofs.LeastHolds.{least_certificate_holds}
 use Rattle.ats_checker.specs.InTime.{ArrivesInTime}
-use Rattle.ats_checker.proofs.InTime.{holding_is_in_time, sender_of_stream}
+use Rattle.ats_checker.proofs.InTime.{holding_is_in_time, in_time_in_true_time, sender_of_stream}
 use Rattle.ats_soundness_law.specs.Sound.{ArrivesBy}
 use Rattle.ats_trace.specs.Journey.{Travel}
 use Rattle.ats_trace.specs.Talker.{talker_of}
@@ -151,7 +151,8 @@ printed_worst_is_within network run rules legal keeps sender listener bound list
         ap (slice_get network.streams) same ∙ is.named in
         let holds : Holds network rows = (least_certificate_holds network rules is.none).holds in
         let time : ArrivesInTime rows is.stream j =
-        λ m within. holding_is_in_time network rows rules holds run legal j there is.stream named
+        λ m within. in_time_in_true_time network rows rules
+        (holding_is_in_time network rows rules holds) run legal j there is.stream named
         (keeps (talker_of network j.release.sender)) m within (λ k d h bridge. keeps _) in
         let by : ArrivesBy (j.release.at.0 + bound) (way_to (stream_sender is.stream) j listener).ending =
         subst (λ (n : ℕ). ArrivesBy (j.release.at.0 + n) (way_to (stream_sender is.stream) j listener).ending)

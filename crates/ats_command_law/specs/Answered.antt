@@ -2,6 +2,7 @@ use Rattle.std.specs.Prelude.{◌≡◌, ◌≢◌, ◌⊎◌, ℕ, ◌+◌, ◌
 use Rattle.ats_streams.specs.Stream.{DeclaredStream, IsClass, with_class}
 use Rattle.ats_network.specs.Network.{DeclaredNetwork, IsNetwork, names_of, ports_together, senders_of}
 use Rattle.ats_network.specs.Pushes.{with_stream}
+use Rattle.ats_network.specs.Rates.{HasRates}
 use Rattle.ats_network.specs.Tables.{stream_names}
 use Rattle.ats_network.specs.declared.network.TheConstants.{MAX_PORTS_TOGETHER, MAX_STREAMS}
 use Rattle.ats_certificate.specs.Certificate.{bound_along}
@@ -57,11 +58,12 @@ abbrev pub IsNameFree : DeclaredNetwork → List ℕ → Type 0
 IsNameFree network name = All (λ other. other ≢ name) (names_of (senders_of network))
 
 -- the name of a stream is free, and as many streams are there as may be, or with its ports they have more than they may
--- have together
-pub record IsFull (network : DeclaredNetwork) (stream : DeclaredStream) : Type 0 where
+-- have together, or a rate or a burst of it at one of its ports is over the limits of a scheduler
+pub record IsOverLimit (network : DeclaredNetwork) (stream : DeclaredStream) : Type 0 where
   pub free : IsNameFree network stream.name
-  pub full : (MAX_STREAMS ≤ length network.streams)
+  pub over : (MAX_STREAMS ≤ length network.streams)
       ⊎ (MAX_PORTS_TOGETHER < ports_together network.streams + length stream.ports)
+      ⊎ (¬ HasRates network.topology stream)
 
 -- no stream of the network has a name
 abbrev pub HasNoStream : DeclaredNetwork → List ℕ → Type 0
@@ -76,14 +78,14 @@ pub record AreFirstReasons (network : DeclaredNetwork) (stream : DeclaredStream)
 -- stream of a name is taken out
 abbrev pub AdmitDenied : DeclaredNetwork → DeclaredStream → Denied → Type 0
 AdmitDenied network stream NameTaken = IsNameTaken network stream.name
-AdmitDenied network stream Limit = IsFull network stream
+AdmitDenied network stream Limit = IsOverLimit network stream
 AdmitDenied network stream (Because reason) = HasFirstReason (with_stream network stream) reason
 AdmitDenied network stream NameUnknown = ⊥
 AdmitDenied network stream (NoClass reasons) = ⊥
 
 abbrev pub LowestDenied : DeclaredNetwork → DeclaredStream → Denied → Type 0
 LowestDenied network stream NameTaken = IsNameTaken network stream.name
-LowestDenied network stream Limit = IsFull network stream
+LowestDenied network stream Limit = IsOverLimit network stream
 LowestDenied network stream (NoClass reasons) = AreFirstReasons network stream reasons
 LowestDenied network stream NameUnknown = ⊥
 LowestDenied network stream (Because reason) = ⊥

@@ -4,11 +4,11 @@ use Rattle.ats_certificate.specs.Certificate.{Holds}
 use Rattle.ats_certificate.specs.declared.row.Row.{Row}
 use Rattle.ats_checker.specs.declared.refusal.Refusal.{Refusal}
 use Rattle.ats_trace.specs.Journey.{Travel}
-use Rattle.ats_trace.specs.Run.{IsLegal}
+use Rattle.ats_trace.specs.Clocks.{IsLegal}
 use Rattle.ats_trace.specs.declared.journey.Release.{Release}
 use Rattle.ats_buffer.specs.Buffer.{buffer_at, buffers_of}
 use Rattle.ats_buffer.specs.Occupancy.{occupancy, row_at}
-use Rattle.ats_buffer_law.specs.Laws.{NodesKeepBuckets}
+use Rattle.ats_buffer_law.specs.Laws.{NodesKeepBuckets, NodesKeepInTrueTime}
 use Rattle.ats_buffer_text.specs.Text.{buffers_text}
 use Rattle.ats_command_input.specs.Answer.{Answer}
 use Rattle.ats_command_input.specs.Input.{network_in, releases_in, rows_in}
@@ -24,7 +24,8 @@ use Rattle.ats_command_law.specs.Meaning.{CheckSays, HasNoRows, IsRefused}
 -- its buckets at which a stream begins that has the class there, and each bridge that the port, or the port before it
 -- on the stream's routes, leaves
 abbrev pub IsRoomAt : DeclaredNetwork → ℕ → ℕ → ℕ → Type 0
-IsRoomAt network port class bits = (run : List Travel) → IsLegal network run → NodesKeepBuckets network run port class
+IsRoomAt network port class bits = (run : List Travel) → (legal : IsLegal network run)
+    → NodesKeepBuckets network run legal port class
     → (time : ℕ) → occupancy network run port class time ≤ bits
 
 -- these rows hold for the network, and these numbers are their buffers, one for each row: that of its port and class,
@@ -77,7 +78,7 @@ pub record ArePeaksOf (net certificate schedule net_bytes certificate_bytes sche
   pub rules : IsNetwork network
   pub buffers : AreBuffers network rows (buffers_of network rows)
   pub held_run : IsHeldRun order (held network rows releases) text run peaks
-  pub fit : (n : ℕ) → n < length rows → NodesKeepBuckets network run (row_at rows n).port (row_at rows n).class
+  pub fit : (n : ℕ) → n < length rows → NodesKeepInTrueTime network run (row_at rows n).port (row_at rows n).class
       → slice_index peaks n ≤ slice_index (buffers_of network rows) n
 
 -- the first two declare this network and these rows, and the third no releases for the network's senders

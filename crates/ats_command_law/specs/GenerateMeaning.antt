@@ -5,7 +5,7 @@ use Rattle.ats_certificate.specs.Certificate.{Holds}
 use Rattle.ats_certificate.specs.declared.row.Row.{Row}
 use Rattle.ats_bound.specs.Least.{least_certificate}
 use Rattle.ats_trace.specs.Journey.{Travel}
-use Rattle.ats_trace.specs.Run.{IsLegal, releases_of}
+use Rattle.ats_trace.specs.Run.{IsIdeal, releases_of}
 use Rattle.ats_trace.specs.Ways.{listener_count}
 use Rattle.ats_trace.specs.declared.journey.Release.{Release}
 use Rattle.ats_conform.specs.Releases.{AllKeepBuckets}
@@ -35,9 +35,9 @@ EachWorstIsWithin network run = (sender listener bound : ℕ)
     → bound_of network (least_sums network) sender listener ≡ Some bound
     → (summary_for network run sender listener).worst.0 ≤ bound
 
--- so it is of each legal run with releases by which every node keeps its buckets
+-- so it is of each legal run in which all nodes read true time, with releases by which every node keeps its buckets
 abbrev pub PrintedWorstIsWithin : Type 0
-PrintedWorstIsWithin = (network : DeclaredNetwork) (run : List Travel) → IsNetwork network → IsLegal network run
+PrintedWorstIsWithin = (network : DeclaredNetwork) (run : List Travel) → IsNetwork network → IsIdeal network run
     → AllKeepBuckets network (releases_of run) → EachWorstIsWithin network run
 
 -- a file of these bytes declares this network; these are the releases of so many frames that are made for it from the

@@ -24,7 +24,7 @@ use Rattle.ats_command_input.specs.Input.{network_in, rows_in, shape_in}
 use Rattle.ats_command_input.specs.declared.status.Status.{Status}
 use Rattle.ats_command_input.specs.declared.status.Status.TheVariants.{Done, Input, Refused}
 use Rattle.ats_command_due.specs.Due.{lrq_bound_answer, lrq_check_answer, lrq_shape_answer}
-use Rattle.ats_command_due.specs.Soundness.{AreSoundBy}
+use Rattle.ats_command_due.specs.Soundness.{AreSoundBy, lrq_runs}
 use Rattle.ats_command_law.specs.Meaning.{HasNoRows}
 
 -- what the regulator lets through of each stream of a shape conforms to that stream's rate and the wire bits of its
@@ -60,8 +60,8 @@ pub record IsLrqBounded (net bytes text : List ℕ) (network : DeclaredNetwork) 
   pub declared : network_in net bytes ≡ Ok network
   pub rules : IsNetwork network
   pub holds : Holds (narrowed network) (least_certificate (narrowed network))
-  pub sound : IsSoundBy lrq_judge spacing_rule network (least_certificate (narrowed network))
-  pub in_time : FramesAreInTimeBy lrq_judge spacing_rule network (least_certificate (narrowed network))
+  pub sound : IsSoundBy lrq_runs network (least_certificate (narrowed network))
+  pub in_time : FramesAreInTimeBy lrq_runs network (least_certificate (narrowed network))
   pub written : text ≡ certificate_text network.topology (least_certificate (narrowed network))
 
 -- it declares this network, for which no certificate holds with narrowed bursts, and the text gives the first reason
@@ -93,7 +93,7 @@ pub record IsLrqAccepted (net certificate net_bytes certificate_bytes text : Lis
     (rows : List Row) : Type 0 where
   pub rules : IsNetwork network
   pub holds : Holds (narrowed network) rows
-  pub sound : AreSoundBy lrq_judge spacing_rule net certificate net_bytes certificate_bytes text network rows
+  pub sound : AreSoundBy lrq_runs net certificate net_bytes certificate_bytes text network rows
 
 -- they declare this network and these rows, which do not hold with narrowed bursts, and the text gives the first
 -- refusal of them

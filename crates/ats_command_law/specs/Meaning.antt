@@ -6,9 +6,7 @@ use Rattle.ats_certificate_file.specs.Text.{certificate_text}
 use Rattle.ats_tally.specs.declared.reason.Reason.{Reason}
 use Rattle.ats_bound.specs.First.{IsFirstReason}
 use Rattle.ats_bound.specs.Least.{least_certificate}
-use Rattle.ats_bucket.specs.Conforming.{Frame}
-use Rattle.ats_streams.specs.declared.traffic.Declared.{Declared}
-use Rattle.ats_group.specs.Judge.{Judge, ats_judge, bucket_rule}
+use Rattle.ats_soundness_law.specs.Runs.{Runs, ats_runs}
 use Rattle.ats_soundness_law.specs.Sound.{IsSound, IsSoundBy}
 use Rattle.ats_checker.specs.First.{IsFirst}
 use Rattle.ats_checker.specs.InTime.{FramesAreInTime, FramesAreInTimeBy}
@@ -49,23 +47,22 @@ BoundSays net bytes text status = ⊥
 abbrev pub BoundMeans : Type 0
 BoundMeans = (net bytes : List ℕ) → BoundSays net bytes (bound_answer net bytes).text (bound_answer net bytes).status
 
--- two files of these bytes declare this network and these rows, which hold for it and are sound, where groups judge so
--- and talkers keep this rule; by them frames are in time, and the text gives their bounds and sums
-pub record IsAcceptedBy (judge : Judge) (rule : Declared → List Frame → Type 0)
-    (net certificate net_bytes certificate_bytes text : List ℕ) (network : DeclaredNetwork) (rows : List Row) : Type 0
-  where
-    pub network_declared : network_in net net_bytes ≡ Ok network
-    pub rows_declared : rows_in network.topology certificate certificate_bytes ≡ Ok rows
-    pub rules : IsNetwork network
-    pub holds : Holds network rows
-    pub sound : IsSoundBy judge rule network rows
-    pub in_time : FramesAreInTimeBy judge rule network rows
-    pub written : text ≡ accepted_text network rows
+-- two files of these bytes declare this network and these rows, which hold for it and are sound in these runs, where
+-- talkers keep what is asked of them; by them frames are in time, and the text gives their bounds and sums
+pub record IsAcceptedBy (runs : Runs) (net certificate net_bytes certificate_bytes text : List ℕ)
+    (network : DeclaredNetwork) (rows : List Row) : Type 0 where
+  pub network_declared : network_in net net_bytes ≡ Ok network
+  pub rows_declared : rows_in network.topology certificate certificate_bytes ≡ Ok rows
+  pub rules : IsNetwork network
+  pub holds : Holds network rows
+  pub sound : IsSoundBy runs network rows
+  pub in_time : FramesAreInTimeBy runs network rows
+  pub written : text ≡ accepted_text network rows
 
--- and the groups are those of Asynchronous Traffic Shaping, and talkers keep their buckets
+-- and the runs are those of Asynchronous Traffic Shaping, where talkers keep their buckets
 abbrev pub IsAccepted : List ℕ → List ℕ → List ℕ → List ℕ → List ℕ → DeclaredNetwork → List Row → Type 0
 IsAccepted net certificate net_bytes certificate_bytes text network rows =
-    IsAcceptedBy ats_judge bucket_rule net certificate net_bytes certificate_bytes text network rows
+    IsAcceptedBy ats_runs net certificate net_bytes certificate_bytes text network rows
 
 -- they declare this network and these rows, which do not hold for it, and the text gives the first refusal of them
 pub record IsRefused (net certificate net_bytes certificate_bytes text : List ℕ) (network : DeclaredNetwork)

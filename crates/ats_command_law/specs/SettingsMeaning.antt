@@ -5,7 +5,7 @@ use Rattle.ats_group.specs.Judge.{ats_judge}
 use Rattle.ats_network.specs.Class.{port_before}
 use Rattle.ats_network.specs.Network.{DeclaredNetwork, IsNetwork, senders_of}
 use Rattle.ats_network.specs.Senders.{sender_at}
-use Rattle.ats_trace.specs.Eligibility.{declared_by, residence_of_groups}
+use Rattle.ats_trace.specs.Eligibility.{declared_by, residence_of_groups, scheduled_by}
 use Rattle.ats_settings.specs.Settings.{AreSettings}
 use Rattle.ats_settings.specs.declared.setting.Setting.{Setting}
 use Rattle.ats_settings_law.specs.Laws.{AreSetAlike, IsKnown, IsNamed, IsNamedBetween, IsNotShort, IsTrueOf}
@@ -20,8 +20,8 @@ use Rattle.ats_command_due.specs.Due.{IsSettingsAnswer}
 -- than either declares: every list of frames that comes to a group, and the size of each frame
 pub record JudgeAlike (one other : DeclaredNetwork) (settings : List Setting) : Type 0 where
   pub groups : (port : ℕ) (offers : List Offer) → All (IsKnown one other settings port) offers
-      → ats_judge (declared_by one) (residence_of_groups one port) offers
-      ≡ ats_judge (declared_by other) (residence_of_groups other port) offers
+      → ats_judge (scheduled_by one port) (residence_of_groups one port) offers
+      ≡ ats_judge (scheduled_by other port) (residence_of_groups other port) offers
   pub sizes : (port : ℕ) (offer : Offer) → IsNamed settings offer.member port → IsNotShort one offer
       → IsNotShort other offer → is_declared_size (declared_by one offer.member) offer.octets
       ≡ is_declared_size (declared_by other offer.member) offer.octets

@@ -13,13 +13,13 @@ use Rattle.ats_network.specs.Network.{DeclaredNetwork, IsNetwork}
 use Rattle.ats_certificate.specs.Certificate.{Holds, IsInTime}
 use Rattle.ats_certificate.specs.declared.row.Row.{Row}
 use Rattle.ats_checker.specs.InTime.{FramesAreInTimeBy}
-use Rattle.ats_checker.proofs.InTime.{sound_is_in_time}
+use Rattle.ats_checker.proofs.InTime.{sound_is_on_time}
 use Rattle.ats_verdict_text.specs.Text.{accepted_text, hop_line, listener_lines, stream_lines}
 use Rattle.ats_lrq.specs.Judge.{lrq_judge, spacing_rule}
 use Rattle.ats_lrq.specs.Narrow.{narrowed, narrowed_stream}
 use Rattle.ats_lrq_law.proofs.Narrowed.{narrowed_is_sound}
 use Rattle.ats_command_input.specs.declared.outcome.Stop.{Stop}
-use Rattle.ats_command_due.specs.Soundness.{IsSoundTextBy}
+use Rattle.ats_command_due.specs.Soundness.{IsSoundTextBy, lrq_runs}
 
 -- streams are in time where they are with narrowed bursts
 in_time_as_declared : (rows : List Row) (streams : List DeclaredStream)
@@ -30,9 +30,9 @@ in_time_as_declared rows streams all = λ i d h.
 
 -- by a certificate that holds with narrowed bursts frames are in time
 pub narrowed_is_in_time : (network : DeclaredNetwork) (rows : List Row) → IsNetwork network
-    → Holds (narrowed network) rows → FramesAreInTimeBy lrq_judge spacing_rule network rows
+    → Holds (narrowed network) rows → FramesAreInTimeBy lrq_runs network rows
 narrowed_is_in_time network rows is holds =
-    sound_is_in_time spacing_rule lrq_judge network rows (narrowed_is_sound network rows is holds)
+    sound_is_on_time lrq_runs network rows (narrowed_is_sound network rows is holds)
     (in_time_as_declared rows network.streams holds.deadlines)
 
 same_lines : (topology : DeclaredTopology) (rows : List Row) (streams : List DeclaredStream)
@@ -55,7 +55,7 @@ same_text network rows =
 -- so the text of a certificate that holds with narrowed bursts is that of sound bounds
 pub narrowed_text_is_sound : (network : DeclaredNetwork) (rows : List Row) (text : List ℕ) → IsNetwork network
     → Holds (narrowed network) rows → text ≡ accepted_text (narrowed network) rows
-    → IsSoundTextBy lrq_judge spacing_rule network rows text
+    → IsSoundTextBy lrq_runs network rows text
 narrowed_text_is_sound network rows text is holds written = record {
   sound = narrowed_is_sound network rows is holds;
   in_time = narrowed_is_in_time network rows is holds;

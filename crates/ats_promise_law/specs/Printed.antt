@@ -1,12 +1,11 @@
 use Rattle.std.specs.Prelude.{◌≡◌, ℕ, List, ◌++◌, Option, Some}
-use Rattle.ats_group.specs.Judge.{ats_judge, bucket_rule}
-use Rattle.ats_lrq.specs.Judge.{lrq_judge, spacing_rule}
+use Rattle.ats_soundness_law.specs.Runs.{ats_runs}
 use Rattle.ats_command_input.specs.Answer.{Answer}
 use Rattle.ats_command_input.specs.Command.{Command, Check, LrqCheck}
 use Rattle.ats_command_input.specs.declared.status.Status.{Status}
 use Rattle.ats_command_due.specs.Calls.{Printed, PrintedPrefix, StatusIsDue}
 use Rattle.ats_command_due.specs.Due.{IsDueAnswer, IsTold}
-use Rattle.ats_command_due.specs.Soundness.{PrintsAsPromised}
+use Rattle.ats_command_due.specs.Soundness.{PrintsAsPromised, lrq_runs}
 use Rattle.ats_promise_law.specs.Laws.{SomeAreDeclared}
 
 -- What the clauses of `ats` say of the bytes that are printed.
@@ -38,9 +37,9 @@ pub record PrintedTextsAreDue : Type 0 where
       → PrintsAsPromised told (Check net certificate) old new
       → (text : List ℕ) × AreAdded text old new
       × (IsTold told (Check net certificate)
-      → SomeAreDeclared ats_judge bucket_rule told net certificate text)
+      → SomeAreDeclared ats_runs told net certificate text)
   pub lrq_check : (told : List ℕ → Option (List ℕ)) (net certificate : List ℕ) (old new : Option (List ℕ))
       → PrintsAsPromised told (LrqCheck net certificate) old new
       → (text : List ℕ) × AreAdded text old new
       × (IsTold told (LrqCheck net certificate)
-      → SomeAreDeclared lrq_judge spacing_rule told net certificate text)
+      → SomeAreDeclared lrq_runs told net certificate text)

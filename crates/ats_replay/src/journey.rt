@@ -1,22 +1,23 @@
 //! The lines of one frame.
 
-ghost use Rattle.std.specs.Prelude.{◌≡◌, ◌++◌, ◌<◌, ◌≤◌, length, OnOk};
+ghost use Rattle.std.specs.Prelude.{◌≡◌, ◌+◌, ◌++◌, ◌<◌, ◌≤◌, length, OnOk};
 ghost use Rattle.std.specs.List.{flat_map, zip};
 ghost use Rattle.ats_network.specs.Network.{senders_of};
 ghost use Rattle.ats_network.specs.Senders.{sender_at};
 ghost use Rattle.ats_streams.specs.Branches.{leg_at};
+ghost use Rattle.ats_port_names.specs.PortName.{port_name};
 ghost use Rattle.ats_topology.specs.Walks.{ArePorts};
 ghost use Rattle.ats_trace.specs.Journey.{IsJourney, legs_at, legs_in};
 ghost use Rattle.ats_trace.specs.Stored.{leg_in, travel_at};
 ghost use Rattle.ats_replay.specs.Departures.{copy_text, ending_line, frame_line, hop_line, journey_text, leg_lines};
 ghost use Rattle.ats_replay.specs.Departures.{sent_text, station_line, verdict_text};
 
+use crate::line::Line;
 use crate::lines::write_number;
 use crate::rows::row_of;
 use ats_group::Verdict;
 use ats_network::{Network, station_of};
 use ats_num::Ps;
-use ats_port_names::write_port;
 use ats_topology::Topology;
 use ats_trace::{Ending, HopRecord, Release, Run};
 use std::alloc::AllocError;
@@ -43,27 +44,50 @@ fn write_frame(
 }
 
 // What was decided on a frame.
-fn write_verdict(out: &mut Vec<u8>, verdict: Verdict) -> Result<(), AllocError>
-    ensures { OnOk result (out.new.items ≡ out.old.items ++ verdict_text verdict) }
+fn put_verdict(line: &mut Line, verdict: Verdict)
+    requires { length line.old ≤ 100 }
+    ensures text { line.new ≡ verdict_text verdict ++ line.old }
+    ensures short { length line.new ≤ length line.old + 30 }
 {
     match verdict {
-        Verdict::Eligible(at) => write_number(out, b" eligible ", at.0),
-        Verdict::Late(at) => write_number(out, b" late ", at.0),
-        Verdict::Size => Ok(out.extend_from_slice(b" size")?),
+        Verdict::Eligible(at) => {
+            line.put_number(at.0);
+            line.put(b" eligible ");
+        }
+        Verdict::Late(at) => {
+            line.put_number(at.0);
+            line.put(b" late ");
+        }
+        Verdict::Size => line.put(b" size"),
     }
 }
 
 // When the transmission of a frame began and ended.
-fn write_sent(out: &mut Vec<u8>, sent: Option<(Ps, Ps)>) -> Result<(), AllocError>
-    ensures { OnOk result (out.new.items ≡ out.old.items ++ sent_text sent) }
+fn put_sent(line: &mut Line, sent: Option<(Ps, Ps)>)
+    requires { length line.old ≤ 1 }
+    ensures text { line.new ≡ sent_text sent ++ line.old }
+    ensures short { length line.new ≤ length line.old + 52 }
 {
-    match sent {
-        Some((start, end)) => {
-            write_number(out, b" start ", start.0)?;
-            write_number(out, b" end ", end.0)
-        }
-        None => Ok(()),
+    if let Some((start, end)) = sent {
+        line.put_number(end.0);
+        line.put(b" end ");
+        line.put_number(start.0);
+        line.put(b" start ");
     }
+}
+
+// The name of a port.
+fn put_port(line: &mut Line, topology: &Topology, port: u32)
+    requires port { port < length topology.now.ports }
+    requires room { length line.old ≤ 150 }
+    ensures text { line.new ≡ port_name topology.now port ++ line.old }
+    ensures short { length line.new ≤ length line.old + 65 }
+{
+    let ends = topology.ports()[port as usize];
+    let nodes = topology.nodes();
+    line.put(nodes[ends.to as usize].name.bytes());
+    line.put(b">");
+    line.put(nodes[ends.from as usize].name.bytes());
 }
 
 // The line of a hop, at this port.
@@ -77,12 +101,15 @@ fn write_hop(
     requires { port < length topology.now.ports }
     ensures { OnOk result (out.new.items ≡ out.old.items ++ hop_line topology.now (port, hop.now)) }
 {
-    out.extend_from_slice(b"hop ")?;
-    write_port(out, topology, port)?;
-    write_number(out, b" ", hop.arrival().0)?;
-    write_verdict(out, hop.verdict())?;
-    write_sent(out, hop.sent())?;
-    out.extend_from_slice(b"\n")?;
+    let mut line = Line::new();
+    line.put(b"\n");
+    put_sent(&mut line, hop.sent());
+    put_verdict(&mut line, hop.verdict());
+    line.put_number(hop.arrival().0);
+    line.put(b" ");
+    put_port(&mut line, topology, port);
+    line.put(b"hop ");
+    out.extend_from_slice(line.bytes())?;
     Ok(())
 }
 

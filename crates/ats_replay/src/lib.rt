@@ -4,6 +4,7 @@
 
 mod journey;
 pub mod laws;
+mod line;
 mod lines;
 pub mod printing;
 pub mod reporting;

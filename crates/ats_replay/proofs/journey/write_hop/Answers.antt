@@ -6,14 +6,18 @@ pub returns : goal.returns
 unfolding hop_line
 returns c =
     simp (
-      c.in_ok-extend_from_slice-2.ensures.items,
-      c.in_ok-write_sent.ensures,
-      c.sent.ensures,
-      c.in_ok-write_verdict.ensures,
-      c.verdict.ensures,
-      c.in_ok-write_number.ensures,
-      c.arrival.ensures,
-      c.in_ok-write_port.ensures.written,
       c.in_ok-extend_from_slice.ensures.items,
+      c.bytes.ensures,
+      c.put-3.ensures.text,
+      c.put_port.ensures.text,
+      c.put-2.ensures.text,
+      c.put_number.ensures.text,
+      c.arrival.ensures,
+      c.put_verdict.ensures.text,
+      c.verdict.ensures,
+      c.put_sent.ensures.text,
+      c.sent.ensures,
+      c.put.ensures.text,
+      c.new-line.ensures,
       append_assoc,
     )

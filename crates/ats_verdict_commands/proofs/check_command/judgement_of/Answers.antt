@@ -5,7 +5,7 @@ use Rattle.ats_tally.specs.Delays.{NetworkRows}
 use Rattle.ats_verdict_text.specs.Text.{accepted_text}
 use Rattle.ats_checker.specs.Refusal.{refusal_of}
 use Rattle.ats_checker.specs.declared.refusal.Refusal.{Refusal}
-use Rattle.ats_soundness_law.proofs.Soundness.{certificate_is_sound}
+use Rattle.ats_soundness_law.proofs.TrueTime.{certificate_is_sound}
 use Rattle.ats_checker.proofs.InTime.{holding_is_in_time}
 use Rattle.ats_verdict_commands.proofs.Judging.{check_text, check_refused}
 use Rattle.ats_verdict_commands.proofs.check_command.judgement_of.Goals as goal
