@@ -1,0 +1,16 @@
+//! What is printed of rates that clocks change, and which of them a file may declare.
+
+ghost use Rattle.ats_clock_examples.specs.FileLimits.{FilesKeepLimits};
+ghost use Rattle.ats_clock_examples.specs.RateTexts.{ChangedRatesAreShown};
+
+/// A stream has a line of rates where a rate or a burst at one of its ports is another than it declares, whatever
+/// clocks there are elsewhere, and no words there but those of ports behind bridges and of talkers with clocks.
+pub fn changed_rates_are_shown()
+    ensures { ChangedRatesAreShown }
+{}
+
+/// A stream of a file is judged along each branch by itself, by what its talker lets through and up to the scheduler
+/// of the bridge at which it ends, with limits that may be reached.
+pub fn files_keep_limits()
+    ensures { FilesKeepLimits }
+{}

@@ -1,0 +1,4 @@
+pub mod EndProofs
+pub mod DiscardProofs
+pub mod SizeProofs
+pub mod BesideProofs

@@ -1,0 +1,5 @@
+pub mod Networks
+pub mod Ends
+pub mod Discards
+pub mod Sizes
+pub mod Beside
