@@ -107,10 +107,18 @@ not_because tells =
     let e : ◌≡◌ {A = ℕ} 51344000 51344001 = ap sum_in same in
     absurd (omega arith)
 
+-- nor is a rate or a burst of the small stream over a limit
+with_small_is : IsNetwork (with_stream bridged (small (codes "c") 7))
+with_small_is =
+    network_by line_nodes line_links (with_stream bridged (small (codes "c") 7)).streams [] refl refl
+
 not_full : ¬ AnswerTells bridged bridged (Admit (small (codes "c") 7)) (Refused Limit)
-not_full tells = elim tells.cause.full as (λ _. ⊥) [
+not_full tells = elim tells.cause.over as (λ _. ⊥) [
   | inl streams ↦ (let h : 4096 ≤ 1 = streams in absurd (omega (arith, h)))
-  | inr ports ↦ (let h : 65536 < 2 + 2 = ports in absurd (omega (arith, h)))
+  | inr more ↦ (elim more as (λ _. ⊥) [
+    | inl ports ↦ (let h : 65536 < 2 + 2 = ports in absurd (omega (arith, h)))
+    | inr over ↦ over (with_small_is.rates 1 (small (codes "c") 7) (lit< tt))
+  ])
 ]
 
 admit : AdmitTellsIt

@@ -40,7 +40,9 @@ judged_as judge bytes declared answer is h =
     answered (network_in (codes "n") bytes) judge (λ (due : Result (List ℕ) Answer). answer ≡ settled due) declared is h
 
 show_done : done_with shown ≡ show_answer (codes "n") network
-unfolding digits show_answer show.show_text show.port_line show.classes_text show.sender_line show.totals_line
+unfolding
+    digits show_answer show.show_text show.port_line show.classes_text show.rates_line show.sender_line
+    show.totals_line
 show_done = judged_as (λ over. Ok (show_text over)) network (Ok line) (done_with shown) line_is refl
 
 show_faulty : faulty_with (codes "input n not-toml\n") ≡ show_answer (codes "n") no_text

@@ -57,7 +57,14 @@ document_with rate deadline = record {
   format = One;
   stations = record { name = codes "s1" } ∷ record { name = codes "s2" } ∷ [];
   bridges =
-      record { name = codes "b1"; processing_min_ns = 1000; processing_max_ns = 1000; residence_ns = 1000000 } ∷ [];
+      record {
+        name = codes "b1";
+        processing_min_ns = 1000;
+        processing_max_ns = 1000;
+        residence_ns = 1000000;
+        clock_ppm = 0;
+        clock_step_ps = 0;
+      } ∷ [];
   links =
       record { a = codes "s1"; b = codes "b1"; mbps = 1000; propagation_ns = 500 }
       ∷ record { a = codes "b1"; b = codes "s2"; mbps = 1000; propagation_ns = 500 } ∷ [];
@@ -73,7 +80,7 @@ empty = declared_network line.topology [] []
 -- the network with the stream of such an entry, where it is added
 abbrev with_entry : ℕ → ℕ → Result DeclaredNetwork NetFault
 with_entry rate deadline =
-    stream_made 16 (at_stream 1) (entry_with rate deadline)
+    stream_made empty.topology 16 (at_stream 1) (entry_with rate deadline)
     (stream_over (one_leg (0 ∷ 2 ∷ [])) (entry_with rate deadline))
     >>= λ stream. unless (refusal_of (at_stream 1)) (stream_push_fault empty stream) (with_stream empty stream)
 

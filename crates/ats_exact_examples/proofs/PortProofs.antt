@@ -1,8 +1,7 @@
 use Rattle.std.proofs.Common.{◌≡◌, ℕ, List, [], get_or, map, refl, ap, subst, arith, lit<, lit≤}
-use Rattle.ats_group.specs.Group.{first, verdicts_of}
 use Rattle.ats_group.specs.declared.verdict.Verdict.{Verdict}
 use Rattle.ats_group.specs.Judge.{ats_judge}
-use Rattle.ats_trace.specs.Eligibility.{declared_by, offer_of, residence_of_groups, IsJudged}
+use Rattle.ats_trace.specs.Eligibility.{IsJudged, offer_of, residence_of_groups, scheduled_by}
 use Rattle.ats_trace.specs.Parts.{groups, Keeps}
 use Rattle.ats_trace.specs.Projections.{Handed, handed_by}
 use Rattle.ats_examples.specs.Networks.{fork_links}
@@ -20,15 +19,15 @@ frames_there = handed_by parted (behind_held 26844000 27516000 28016000) 0 6
 
 not_at_arrival : ¬ Keeps groups parted (behind_held 26844000 27516000 28016000)
 not_at_arrival keeps =
-    let judged : IsJudged ats_judge parted (residence_of_groups parted 0) frames_there =
+    let judged : IsJudged ats_judge parted 0 frames_there =
     keeps 0 6 (lit< tt) (lit≤ tt) in
     let same : judged.arrivals ≡ frames_there = in_order (λ (f : Handed). f.crossing.arrival)
     (get_or frames_there 0 no_frame) (get_or frames_there 1 no_frame) (get_or frames_there 2 no_frame)
     judged.arrivals (lit< tt) (lit< tt) judged.same judged.in_order in
-    let told : map (λ (f : Handed). f.verdict) frames_there ≡ verdicts_of (declared_by parted)
-    (residence_of_groups parted 0) (first (declared_by parted)) (map offer_of frames_there)
-    = subst (λ (frames : List Handed). map (λ (f : Handed). f.verdict) frames ≡ verdicts_of (declared_by parted)
-    (residence_of_groups parted 0) (first (declared_by parted)) (map offer_of frames)) same judged.verdicts in
+    let told : map (λ (f : Handed). f.verdict) frames_there ≡ ats_judge (scheduled_by parted 0)
+    (residence_of_groups parted 0) (map offer_of frames_there)
+    = subst (λ (frames : List Handed). map (λ (f : Handed). f.verdict) frames ≡ ats_judge (scheduled_by parted 0)
+    (residence_of_groups parted 0) (map offer_of frames)) same judged.verdicts in
     let early : ◌≡◌ {A = ℕ} 26844000 137196000 = ap (λ (vs : List Verdict). get_or (map time_in vs) 2 0) told in
     absurd (omega arith)
 

@@ -3,7 +3,7 @@ use Rattle.ats_topology.specs.Port.{port_at}
 use Rattle.ats_network.specs.Network.{IsNetwork}
 use Rattle.ats_trace.specs.ExactLinks.{HaveOneLatency, IsLegalAt}
 use Rattle.ats_trace.specs.Journey.{Travel}
-use Rattle.ats_trace.specs.Run.{IsLegal}
+use Rattle.ats_trace.specs.Run.{IsIdeal}
 use Rattle.ats_examples.specs.Networks.{line}
 
 -- Ports with one latency each.
@@ -20,4 +20,4 @@ pub record LatenciesMayDiffer : Type 0 where
   pub one : HaveOneLatency line.topology.ports
   pub to_bridge : latency_at 0 ≡ 1500000
   pub to_station : latency_at 2 ≡ 500000
-  pub exact : (run : List Travel) → IsLegal line run ↔ IsLegalAt line run
+  pub exact : (run : List Travel) → IsIdeal line run ↔ IsLegalAt line run

@@ -4,7 +4,7 @@ use Rattle.ats_topology.specs.declared.node.Node.{Node}
 use Rattle.ats_network.specs.Network.{DeclaredNetwork, IsNetwork, declared_network}
 use Rattle.ats_trace.specs.Journey.{Travel}
 use Rattle.ats_trace.specs.Parts.{groups}
-use Rattle.ats_trace.specs.Run.{IsLegal}
+use Rattle.ats_trace.specs.Run.{IsIdeal}
 use Rattle.ats_examples.specs.Deviations.{BreaksAlone}
 use Rattle.ats_examples.specs.Networks.{bridge, fork_links, station, stream}
 use Rattle.ats_examples.specs.Runs.{hop, regulated, sunk}
@@ -30,5 +30,5 @@ behind_held eligible end sinks = regulated
 -- next port, by which it would be eligible at its arrival
 pub record GroupsCrossPorts : Type 0 where
   pub rules : IsNetwork parted
-  pub held : IsLegal parted (behind_held 137196000 137868000 138368000)
+  pub held : IsIdeal parted (behind_held 137196000 137868000 138368000)
   pub at_arrival : BreaksAlone groups parted (behind_held 26844000 27516000 28016000)

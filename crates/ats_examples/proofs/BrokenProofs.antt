@@ -17,7 +17,7 @@ not_chosen keeps =
     let ahead : IsAhead (get_or (sent_by line later_eligible_first 0) 2 no_transmission)
     (get_or (sent_by line later_eligible_first 0) 1 no_transmission)
     = keeps 0 (lit< tt) 2 no_transmission (lit< tt) 1 no_transmission (lit< tt) (lit< tt) (lit≤ tt) in
-    let earlier : 2 ≤ 1 = ahead.eligible refl in
+    let earlier : 2 ≤ 1 = ahead.no_later refl in
     absurd (omega arith)
 
 -- no transmission of the station ends when that of the stream starts

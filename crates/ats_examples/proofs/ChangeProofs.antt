@@ -7,12 +7,11 @@ use Rattle.ats_num.specs.declared.time.Ps.{Ps}
 use Rattle.ats_group.specs.Judge.{ats_judge}
 use Rattle.ats_port_rule.specs.Transmission.{Transmission}
 use Rattle.ats_port_rule.specs.PortRule.{StartsAfterGap, IsAhead}
-use Rattle.ats_group.specs.Group.{first, verdicts_of}
-use Rattle.ats_trace.specs.Eligibility.{declared_by, offer_of, residence_of_groups, IsJudged}
+use Rattle.ats_trace.specs.Eligibility.{IsJudged, offer_of, residence_of_groups, scheduled_by}
 use Rattle.ats_group.specs.declared.verdict.Verdict.{Verdict}
 use Rattle.ats_group.specs.declared.verdict.Verdict.TheVariants.{Eligible, Late, Size}
 use Rattle.ats_trace.specs.Stored.{no_travel}
-use Rattle.ats_trace.specs.Run.{IsLegal, IsRunBy}
+use Rattle.ats_trace.specs.Run.{IsIdeal, IsRunBy}
 use Rattle.ats_trace.specs.Projections.{Crossing, Handed, sent_by, handed_by}
 use Rattle.ats_examples.specs.Networks.{line, line_and_flow, fork}
 use Rattle.ats_examples.specs.Runs.{first_goes_first, second_goes_first}
@@ -35,17 +34,17 @@ time_in (Eligible e) = e.0
 time_in (Late e) = e.0
 time_in Size = 0
 
-not_in_order : ¬ IsLegal line_and_flow released_later
+not_in_order : ¬ IsIdeal line_and_flow released_later
 not_in_order h =
     let back : 2 ≤ 1 = h.in_order 0 1 0 (lit≤ tt) (lit< tt) in
     absurd (omega arith)
 
-not_a_sender : ¬ IsLegal line of_no_sender
+not_a_sender : ¬ IsIdeal line of_no_sender
 not_a_sender h =
     let beyond : 1 < 1 = (h.journeys 0 no_travel (lit< tt)).sender in
     absurd (omega arith)
 
-not_octets : ¬ IsLegal line of_63_octets
+not_octets : ¬ IsIdeal line of_63_octets
 not_octets h =
     let short : 64 ≤ 63 = (h.journeys 0 no_travel (lit< tt)).octets.least in
     absurd (omega arith)
@@ -53,42 +52,42 @@ not_octets h =
 pub no_crossing : Crossing
 no_crossing = record { port = 0; octets = 0; came = 0; sent = no_transmission; arrival = 0 }
 
-not_a_way : ¬ IsLegal line not_received
+not_a_way : ¬ IsIdeal line not_received
 not_a_way h = (h.journeys 0 no_travel (lit< tt)).way
 
-not_in_time : ¬ IsLegal line sunk_late
+not_in_time : ¬ IsIdeal line sunk_late
 not_in_time h =
     let late : 26672001 ≤ 26672000 = ((h.links 2 (lit< tt)).within 0 no_crossing (lit< tt)).latest in
     absurd (omega arith)
 
-not_at_release : ¬ IsLegal line comes_late
+not_at_release : ¬ IsIdeal line comes_late
 not_at_release h =
     let late : ◌≡◌ {A = ℕ} 1 0 = ap (λ (t : Ps). t.0) (h.journeys 0 no_travel (lit< tt)).released.0 in
     absurd (omega arith)
 
-not_released : ¬ IsLegal line_and_flow held_at_station
+not_released : ¬ IsIdeal line_and_flow held_at_station
 not_released h =
     let held : ◌≡◌ {A = ℕ} 2 1 = ap time_in (h.journeys 1 no_travel (lit< tt)).released.1 in
     absurd (omega arith)
 
-not_waiting : ¬ IsLegal line started_early
+not_waiting : ¬ IsIdeal line started_early
 not_waiting h =
     let early : 13836000 ≤ 13835999 = (h.ports 2 (lit< tt)).waits 0 no_transmission (lit< tt) in
     absurd (omega arith)
 
-not_taking : ¬ IsLegal line sent_slowly
+not_taking : ¬ IsIdeal line sent_slowly
 not_taking h =
     let slow : ◌≡◌ {A = ℕ} 12336000 12328000 = (h.ports 0 (lit< tt)).takes 0 no_transmission (lit< tt) in
     absurd (omega arith)
 
-not_apart : ¬ IsLegal line_and_flow overlapped
+not_apart : ¬ IsIdeal line_and_flow overlapped
 not_apart h =
     let overlap : (12336000 ≤ 12335999) ⊎ (24672000 ≤ 0) =
     (h.ports 0 (lit< tt)).apart 0 1 no_transmission (lit< tt) (lit< tt) in
     elim overlap [ inl e ↦ absurd (omega arith) | inr e ↦ absurd (omega arith) ]
 
 -- at the station's port the flow's frame has class 0, and the frame behind it class 6
-not_chosen : ¬ IsLegal line_and_flow passed_over
+not_chosen : ¬ IsIdeal line_and_flow passed_over
 not_chosen h =
     let ahead : IsAhead (get_or (sent_by line_and_flow passed_over 0) 0 no_transmission)
     (get_or (sent_by line_and_flow passed_over 0) 1 no_transmission) =
@@ -101,7 +100,7 @@ gap_there : StartsAfterGap (sent_by line started_late 2) (get_or (sent_by line s
 gap_there zero d within same = let e : ◌≡◌ {A = ℕ} 26172000 13836001 = same in absurd (omega arith)
 gap_there (suc k) d within same = absurd (omega arith)
 
-not_prompt : ¬ IsLegal line started_late
+not_prompt : ¬ IsIdeal line started_late
 not_prompt h =
     let idle : 13836001 ≤ 13836000 =
     (h.ports 2 (lit< tt)).prompt 0 no_transmission (lit< tt) 0 no_transmission (lit< tt) gap_there (lit≤ tt) in
@@ -129,21 +128,21 @@ abbrev early_frame : List Handed
 early_frame = handed_by line_and_flow eligible_early 0 6
 
 -- no group judges the stream's frame so, 1 ps before it would let it
-pub not_early : ¬ IsJudged ats_judge line_and_flow (residence_of_groups line_and_flow 0) early_frame
+pub not_early : ¬ IsJudged ats_judge line_and_flow 0 early_frame
 not_early judged =
     let same : judged.arrivals ≡ early_frame = only (get_or early_frame 0 no_frame) judged.arrivals judged.same in
-    let told : map (λ (f : Handed). f.verdict) early_frame ≡ verdicts_of (declared_by line_and_flow)
-    (residence_of_groups line_and_flow 0) (first (declared_by line_and_flow)) (map offer_of early_frame)
-    = subst (λ (frames : List Handed). map (λ (f : Handed). f.verdict) frames ≡ verdicts_of (declared_by line_and_flow)
-    (residence_of_groups line_and_flow 0) (first (declared_by line_and_flow)) (map offer_of frames))
+    let told : map (λ (f : Handed). f.verdict) early_frame ≡ ats_judge (scheduled_by line_and_flow 0)
+    (residence_of_groups line_and_flow 0) (map offer_of early_frame)
+    = subst (λ (frames : List Handed). map (λ (f : Handed). f.verdict) frames ≡ ats_judge (scheduled_by line_and_flow 0)
+    (residence_of_groups line_and_flow 0) (map offer_of frames))
     same judged.verdicts in
     let early : ◌≡◌ {A = ℕ} 26171999 26172000 = ap first_time told in
     absurd (omega arith)
 
-not_judged : ¬ IsLegal line_and_flow eligible_early
+not_judged : ¬ IsIdeal line_and_flow eligible_early
 not_judged h = not_early (h.groups 0 6 (lit< tt) (lit≤ tt))
 
-not_passed : ¬ IsLegal line_and_flow flow_eligible_early
+not_passed : ¬ IsIdeal line_and_flow flow_eligible_early
 not_passed h =
     let early : ◌≡◌ {A = ℕ} 13835999 13836000 = ap time_in (h.flows 0 (lit< tt) 0 no_frame (lit< tt)) in
     absurd (omega arith)

@@ -1,7 +1,7 @@
 use Rattle.std.proofs.Common.{◌≡◌, ◌+◌, ◌*◌, ◌≤◌, false, true, refl, arith, lit<, lit≤}
 use Rattle.std.proofs.lemmas.Bool.{false≢true}
 use Rattle.ats_certificate.specs.Certificate.{bound_at, Holds}
-use Rattle.ats_trace.specs.Run.{IsLegal, releases_of}
+use Rattle.ats_trace.specs.Run.{IsIdeal, releases_of}
 use Rattle.ats_trace.specs.Stored.{travel_at}
 use Rattle.ats_trace.specs.Talker.{talker_of, KeepsBuckets}
 use Rattle.ats_soundness_law.specs.Sound.{ArrivesBy}
@@ -25,7 +25,7 @@ not_of_one_class h =
     let there : false ≡ true = h.rows_of.complete 2 5 refl in
     absurd (false≢true there)
 
-together_legal : IsLegal fork_of_classes second_goes_first
+together_legal : IsIdeal fork_of_classes second_goes_first
 together_legal = legal_by fork_of_classes second_goes_first refl
 
 together_kept : KeepsBuckets fork_of_classes (releases_of second_goes_first) (talker_of fork_of_classes 0)
@@ -34,7 +34,7 @@ together_kept = keeps_by fork_of_classes (releases_of second_goes_first) (talker
 other_kept : KeepsBuckets fork_of_classes (releases_of second_goes_first) (talker_of fork_of_classes 1)
 other_kept = keeps_by fork_of_classes (releases_of second_goes_first) (talker_of fork_of_classes 1) refl refl
 
-behind_legal : IsLegal fork_of_classes (behind_two 6720000)
+behind_legal : IsIdeal fork_of_classes (behind_two 6720000)
 behind_legal = legal_by fork_of_classes (behind_two 6720000) refl
 
 behind_kept : KeepsBuckets fork_of_classes (releases_of (behind_two 6720000)) (talker_of fork_of_classes 0)

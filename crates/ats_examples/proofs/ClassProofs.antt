@@ -1,11 +1,10 @@
 use Rattle.std.proofs.Common.{◌≡◌, ℕ, ◌≤◌, List, get_or, map, refl, ap, subst, arith, lit<, lit≤}
 use Rattle.ats_num.specs.Pace.{drawn_wait}
 use Rattle.ats_num.specs.Tie.{late_key, mixed_key}
-use Rattle.ats_group.specs.Group.{first, verdicts_of}
 use Rattle.ats_group.specs.declared.verdict.Verdict.{Verdict}
 use Rattle.ats_group.specs.Judge.{ats_judge}
 use Rattle.ats_port_rule.specs.PortRule.{IsAhead}
-use Rattle.ats_trace.specs.Eligibility.{declared_by, offer_of, residence_of_groups, IsJudged}
+use Rattle.ats_trace.specs.Eligibility.{IsJudged, offer_of, residence_of_groups, scheduled_by}
 use Rattle.ats_trace.specs.Parts.{chosen, groups, Keeps}
 use Rattle.ats_trace.specs.Projections.{Handed, sent_by, handed_by}
 use Rattle.ats_examples.specs.Networks.{fork_of_classes, line_lowered, line_raised}
@@ -54,15 +53,15 @@ lowered_frames = handed_by line_lowered group_by_class 0 6
 
 not_apart : ¬ Keeps groups line_lowered group_by_class
 not_apart keeps =
-    let judged : IsJudged ats_judge line_lowered (residence_of_groups line_lowered 0) lowered_frames =
+    let judged : IsJudged ats_judge line_lowered 0 lowered_frames =
     keeps 0 6 (lit< tt) (lit≤ tt) in
     let same : judged.arrivals ≡ lowered_frames = in_order (λ (f : Handed). f.crossing.arrival)
     (get_or lowered_frames 0 no_frame) (get_or lowered_frames 1 no_frame) (get_or lowered_frames 2 no_frame)
     judged.arrivals (lit< tt) (lit< tt) judged.same judged.in_order in
-    let told : map (λ (f : Handed). f.verdict) lowered_frames ≡ verdicts_of (declared_by line_lowered)
-    (residence_of_groups line_lowered 0) (first (declared_by line_lowered)) (map offer_of lowered_frames)
-    = subst (λ (frames : List Handed). map (λ (f : Handed). f.verdict) frames ≡ verdicts_of (declared_by line_lowered)
-    (residence_of_groups line_lowered 0) (first (declared_by line_lowered)) (map offer_of frames))
+    let told : map (λ (f : Handed). f.verdict) lowered_frames ≡ ats_judge (scheduled_by line_lowered 0)
+    (residence_of_groups line_lowered 0) (map offer_of lowered_frames)
+    = subst (λ (frames : List Handed). map (λ (f : Handed). f.verdict) frames ≡ ats_judge (scheduled_by line_lowered 0)
+    (residence_of_groups line_lowered 0) (map offer_of frames))
     same judged.verdicts in
     let early : ◌≡◌ {A = ℕ} 26844000 137196000 = ap (λ (vs : List Verdict). get_or (map time_in vs) 2 0) told in
     absurd (omega arith)
@@ -73,13 +72,13 @@ raised_frame = handed_by line_raised held_by_group 0 5
 
 not_held : ¬ Keeps groups line_raised held_by_group
 not_held keeps =
-    let judged : IsJudged ats_judge line_raised (residence_of_groups line_raised 0) raised_frame =
+    let judged : IsJudged ats_judge line_raised 0 raised_frame =
     keeps 0 5 (lit< tt) (lit≤ tt) in
     let same : judged.arrivals ≡ raised_frame = only (get_or raised_frame 0 no_frame) judged.arrivals judged.same in
-    let told : map (λ (f : Handed). f.verdict) raised_frame ≡ verdicts_of (declared_by line_raised)
-    (residence_of_groups line_raised 0) (first (declared_by line_raised)) (map offer_of raised_frame)
-    = subst (λ (frames : List Handed). map (λ (f : Handed). f.verdict) frames ≡ verdicts_of (declared_by line_raised)
-    (residence_of_groups line_raised 0) (first (declared_by line_raised)) (map offer_of frames))
+    let told : map (λ (f : Handed). f.verdict) raised_frame ≡ ats_judge (scheduled_by line_raised 0)
+    (residence_of_groups line_raised 0) (map offer_of raised_frame)
+    = subst (λ (frames : List Handed). map (λ (f : Handed). f.verdict) frames ≡ ats_judge (scheduled_by line_raised 0)
+    (residence_of_groups line_raised 0) (map offer_of frames))
     same judged.verdicts in
     let late : ◌≡◌ {A = ℕ} 137196000 26844000 = ap first_time told in
     absurd (omega arith)

@@ -1,5 +1,5 @@
 use Rattle.std.proofs.Common.{◌≡◌, ℕ, zero, suc, ◌<◌, ◌≤◌, List, [], ◌∷◌, map, refl, sym, ap, inl, inr, ◌⊎◌}
-use Rattle.std.proofs.Common.{arith}
+use Rattle.std.proofs.Common.{◌∙◌, arith, length}
 use Rattle.std.specs.Prelude.{IsPermutation, Contains}
 use Rattle.std.specs.List.Sorted.{IsNonDecreasing}
 use Rattle.std.proofs.lemmas.List.Sorted.{IsPermutation-sym, length_permutation, Contains-permutation}
@@ -112,3 +112,33 @@ in_order {X} key a b c (u ∷ v ∷ []) ab bc p up =
     absurd (omega (arith, length_permutation (a ∷ b ∷ c ∷ []) (u ∷ v ∷ []) p))
 in_order {X} key a b c (u ∷ v ∷ w ∷ z ∷ zs) ab bc p up =
     absurd (omega (arith, length_permutation (a ∷ b ∷ c ∷ []) (u ∷ v ∷ w ∷ z ∷ zs) p))
+
+-- a list with these two elements whose keys do not descend
+pub two_in_order : {X : Type 0} (key : X → ℕ) (a b : X) (ys : List X) → key a < key b
+    → IsPermutation (a ∷ b ∷ []) ys → IsNonDecreasing (map key ys) → ys ≡ a ∷ b ∷ []
+two_in_order {X} key a b (u ∷ v ∷ []) ab p up =
+    let xs : List X = a ∷ b ∷ [] in
+    let ys : List X = u ∷ v ∷ [] in
+    let back : IsPermutation ys xs = IsPermutation-sym xs ys p in
+    let uv : key u ≤ key v = up 0 1 0 (omega arith) (omega arith) in
+    by uv (one_of_two u v a (Contains-permutation xs ys a p (0, omega arith, refl)))
+    (one_of_two u v b (Contains-permutation xs ys b p (1, omega arith, refl)))
+  where
+    one_of_two : (u v x : X) → Contains (u ∷ v ∷ []) x → (u ≡ x) ⊎ (v ≡ x)
+    one_of_two u v x (zero, within, e) = inl e
+    one_of_two u v x (suc zero, within, e) = inr e
+    one_of_two u v x (suc (suc k), within, e) = absurd (omega arith)
+
+    by : key u ≤ key v → (u ≡ a) ⊎ (v ≡ a) → (u ≡ b) ⊎ (v ≡ b) → u ∷ v ∷ [] ≡ a ∷ b ∷ []
+    by uv (inl first) (inr second) =
+        ap (λ (x : X). x ∷ v ∷ []) first ∙ ap (λ (x : X). a ∷ x ∷ []) second
+    by uv (inl first) (inl second) = absurd (omega (arith, ab, ap key first, ap key second))
+    by uv (inr first) (inl second) = absurd (omega (arith, ab, uv, ap key first, ap key second))
+    by uv (inr first) (inr second) = absurd (omega (arith, ab, ap key first, ap key second))
+two_in_order key a b [] ab p up =
+    let e : 0 ≡ length (a ∷ b ∷ []) = length_permutation (a ∷ b ∷ []) [] p in absurd (omega arith)
+two_in_order key a b (u ∷ []) ab p up =
+    let e : length (u ∷ []) ≡ length (a ∷ b ∷ []) = length_permutation (a ∷ b ∷ []) (u ∷ []) p in absurd (omega arith)
+two_in_order {X} key a b (u ∷ v ∷ w ∷ ys) ab p up =
+    let e : length (u ∷ v ∷ w ∷ ys) ≡ length (a ∷ b ∷ []) = length_permutation (a ∷ b ∷ []) (u ∷ v ∷ w ∷ ys) p in
+    absurd (omega arith)

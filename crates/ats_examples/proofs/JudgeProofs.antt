@@ -8,11 +8,12 @@ use Rattle.ats_group.specs.declared.verdict.Verdict.TheVariants.{Size}
 use Rattle.ats_group.specs.Judge.{bucket_rule}
 use Rattle.ats_trace.specs.Journey.{Travel}
 use Rattle.ats_trace.specs.Projections.{Handed, handed_by}
-use Rattle.ats_trace.specs.Eligibility.{IsJudged, residence_of_groups}
+use Rattle.ats_trace.specs.Eligibility.{IsJudged}
 use Rattle.ats_trace.specs.Run.{IsLegalBy, releases_of}
 use Rattle.ats_trace.specs.Talker.{talker_of, KeepsBuckets}
 use Rattle.ats_trace.specs.Parts.{in_order, octets, way, released, copies, links, waits, takes, apart, chosen}
 use Rattle.ats_trace.specs.Parts.{prompt, flows}
+use Rattle.ats_soundness_law.specs.Runs.{in_true_time}
 use Rattle.ats_soundness_law.specs.Sound.{IsServed, IsSoundBy}
 use Rattle.ats_soundness_law.proofs.EachRule.{rule_of_holding}
 use Rattle.ats_soundness_law.proofs.Soundness.{sound_by_rules}
@@ -24,26 +25,26 @@ use Rattle.ats_examples.specs.Rows.{line_rows}
 use Rattle.ats_examples.specs.Judges.{discards, discarded, RegulatorCounts}
 use Rattle.ats_examples.proofs.NetworkProofs.{line_is}
 use Rattle.ats_examples.proofs.LawsMetProofs.{laws_are_met}
-use Rattle.ats_examples.proofs.StationTest.{from_stations}
+use Rattle.ats_examples.proofs.StationTest.{from_stations_by}
 
 abbrev run : List Travel
 run = discarded ∷ []
 
 -- a frame that is discarded for its size, or none, is judged so
-one_judged : (network : DeclaredNetwork) (residence_ns : ℕ) (h : Handed) → h.verdict ≡ Size → (there : Bool)
-    → IsJudged discards network residence_ns (cond there (h ∷ []) [])
-one_judged network residence_ns h size true = record {
+one_judged : (network : DeclaredNetwork) (port : ℕ) (h : Handed) → h.verdict ≡ Size → (there : Bool)
+    → IsJudged discards network port (cond there (h ∷ []) [])
+one_judged network port h size true = record {
   arrivals = h ∷ [];
   same = IsPermutation-refl (h ∷ []);
   in_order = ascending_by (h.crossing.arrival ∷ []) refl;
   verdicts = ap (λ (v : Verdict). v ∷ []) size;
 }
-one_judged network residence_ns h size false =
+one_judged network port h size false =
     record { arrivals = []; same = IsPermutation-refl []; in_order = ascending_by [] refl; verdicts = refl }
 
 groups : (port class : ℕ) → port < length line.topology.ports → 1 ≤ class
-    → IsJudged discards line (residence_of_groups line port) (handed_by line run port class)
-groups port class within least = one_judged line (residence_of_groups line port) _ refl (0 == port && 6 == class)
+    → IsJudged discards line port (handed_by line run port class)
+groups port class within least = one_judged line port _ refl (0 == port && 6 == class)
 
 legal : IsLegalBy discards line run
 legal = record {
@@ -73,8 +74,8 @@ keeps = keeps_by line (releases_of run) (talker_of line 0) refl refl
 not_served : ¬ IsServed line_rows (sender_at line 0) discarded
 not_served served = (served 0 (lit< tt)).arrives
 
-unsound : ¬ IsSoundBy discards bucket_rule line line_rows
-unsound sound = not_served ((from_stations bucket_rule discards line line_rows refl sound).served run legal discarded
+unsound : ¬ IsSoundBy (in_true_time discards bucket_rule) line line_rows
+unsound sound = not_served ((from_stations_by bucket_rule discards line line_rows refl sound).served run legal discarded
     (0, lit< tt, refl) (lit< tt) keeps)
 
 pub regulator_counts : RegulatorCounts

@@ -10,7 +10,6 @@ use Rattle.ats_topology.specs.declared.port.Port.{Port}
 use Rattle.ats_network.specs.Network.{DeclaredNetwork}
 use Rattle.ats_port_rule.specs.Transmission.{Transmission}
 use Rattle.ats_port_rule.specs.PortRule.{KeepsTie}
-use Rattle.ats_group.specs.Group.{first, verdicts_of}
 use Rattle.ats_streams.specs.Traffic.{is_declared_size}
 use Rattle.ats_group.specs.declared.verdict.Verdict.{Verdict}
 use Rattle.ats_group.specs.declared.verdict.Verdict.TheVariants.{Eligible, Late, Size}
@@ -19,7 +18,8 @@ use Rattle.ats_trace.specs.Journey.{Travel}
 use Rattle.ats_trace.specs.Links.{ArrivesWithin, KeepsTimes, KeepsLinkRule, in_order_from, ArrivesByPace, KeepsPace}
 use Rattle.ats_trace.specs.Parts.{EachPort}
 use Rattle.ats_trace.specs.Projections.{Crossing, Handed, crossings_by, sent_by, handed_by, handed_from}
-use Rattle.ats_trace.specs.Eligibility.{declared_by, offer_of, residence_of_groups, IsJudged, IsPassed}
+use Rattle.ats_trace.specs.Eligibility.{IsJudged, IsPassed, declared_by, offer_of, residence_of_groups}
+use Rattle.ats_trace.specs.Eligibility.{scheduled_by}
 use Rattle.ats_examples.proofs.Tests.{le_of, lt_of, eq_of, implied, either, all_by, pairs_pass, pairs_by, each_below}
 use Rattle.ats_examples.proofs.Tests.{below_by}
 use Rattle.ats_examples.proofs.ArrivalTest.{by_arrival, same_frames}
@@ -181,22 +181,22 @@ verdicts_are (v ∷ vs) (w ∷ ws) h =
 
 -- frames in the order of their arrivals get their group's verdicts
 abbrev pub told_pass : DeclaredNetwork → ℕ → List Handed → Bool
-told_pass network residence_ns handed =
+told_pass network port handed =
     pairs_pass nat_le (map (λ (h : Handed). h.crossing.arrival) handed)
     && same_verdicts (map (λ (h : Handed). h.verdict) handed)
-    (verdicts_of (declared_by network) residence_ns (first (declared_by network)) (map offer_of handed))
+    (ats_judge (scheduled_by network port) (residence_of_groups network port) (map offer_of handed))
 
 abbrev pub judged_pass : DeclaredNetwork → ℕ → List Handed → Bool
-judged_pass network residence_ns handed = told_pass network residence_ns (by_arrival handed)
+judged_pass network port handed = told_pass network port (by_arrival handed)
 
-pub judged_by : (network : DeclaredNetwork) (residence_ns : ℕ) (handed : List Handed)
-    → judged_pass network residence_ns handed ≡ true → IsJudged ats_judge network residence_ns handed
-judged_by network residence_ns handed h =
+pub judged_by : (network : DeclaredNetwork) (port : ℕ) (handed : List Handed)
+    → judged_pass network port handed ≡ true → IsJudged ats_judge network port handed
+judged_by network port handed h =
     let sorted : List Handed = by_arrival handed in
     let times : List ℕ = map (λ (h : Handed). h.crossing.arrival) sorted in
     let told : List Verdict = map (λ (h : Handed). h.verdict) sorted in
     let due : List Verdict =
-    verdicts_of (declared_by network) residence_ns (first (declared_by network)) (map offer_of sorted) in
+    ats_judge (scheduled_by network port) (residence_of_groups network port) (map offer_of sorted) in
     let parts : (pairs_pass nat_le times ≡ true) × (same_verdicts told due ≡ true) =
     and_parts (pairs_pass nat_le times) (same_verdicts told due) h in
     record {
@@ -247,7 +247,7 @@ no_others port class least seven six five (h ∷ handed) passed =
 
 -- each port's group of a class judges its frames
 abbrev pub group_passes : DeclaredNetwork → List Travel → ℕ → ℕ → Bool
-group_passes network run class p = judged_pass network (residence_of_groups network p) (handed_by network run p class)
+group_passes network run class p = judged_pass network p (handed_by network run p class)
 
 -- of each class
 abbrev pub groups_pass : DeclaredNetwork → List Travel → Bool
@@ -259,7 +259,7 @@ groups_pass network run =
 
 pub groups_by : (network : DeclaredNetwork) (run : List Travel) → groups_pass network run ≡ true
     → (port class : ℕ) → port < length network.topology.ports → 1 ≤ class
-    → IsJudged ats_judge network (residence_of_groups network port) (handed_by network run port class)
+    → IsJudged ats_judge network port (handed_by network run port class)
 groups_by network run passed port class within least =
     let ports : ℕ = length network.topology.ports in
     let of_class : ℕ → Bool = λ c. each_below (group_passes network run c) ports in
@@ -268,8 +268,8 @@ groups_by network run passed port class within least =
     let first = and_parts (of_class 7) (of_class 6 && of_class 5) parts.1 in
     let each : (of_class 6 ≡ true) × (of_class 5 ≡ true) = and_parts (of_class 6) (of_class 5) first.1 in
     let judged : (c : ℕ) → of_class c ≡ true
-    → IsJudged ats_judge network (residence_of_groups network port) (handed_by network run port c) =
-    λ c h. judged_by network (residence_of_groups network port) (handed_by network run port c)
+    → IsJudged ats_judge network port (handed_by network run port c) =
+    λ c h. judged_by network port (handed_by network run port c)
     (below_by (group_passes network run c) ports h port within) in
     elim (cases_eq class 7) [
       | inl same ↦ rw same (judged 7 first.0)
@@ -278,7 +278,7 @@ groups_by network run passed port class within least =
         | inr six ↦ elim (cases_eq class 5) [
           | inl same ↦ rw same (judged 5 each.1)
           | inr five ↦ rw (no_others port class least seven six five (handed_from network 0 run) parts.0)
-              (judged_by network (residence_of_groups network port) [] refl)
+              (judged_by network port [] refl)
         ]
       ]
     ]

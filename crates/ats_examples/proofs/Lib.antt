@@ -4,6 +4,7 @@ pub mod BucketTest
 pub mod ChangeProofs
 pub mod ClassBoundProofs
 pub mod ClassProofs
+pub mod ClockedRunProofs
 pub mod CrossingProofs
 pub mod DeviationProofs
 pub mod GroupProofs
@@ -23,6 +24,7 @@ pub mod PremiseProofs
 pub mod RuleProofs
 pub mod RuleRuns
 pub mod RuleTest
+pub mod SlowClockProofs
 pub mod SoundRunProofs
 pub mod SpreadBoundProofs
 pub mod StationTest

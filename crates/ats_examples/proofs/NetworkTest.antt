@@ -1,7 +1,7 @@
 use Rattle.std.proofs.Common.{◌≡◌, ◌≢◌, ℕ, ◌+◌, ◌<◌, ◌≤◌, Bool, true, false, ◌&&◌, ◌||◌, List, [], ◌∷◌, length, sym}
-use Rattle.std.proofs.Common.{ap, refl, ◌∙◌, Option, Some, None, arith, inl, inr}
+use Rattle.std.proofs.Common.{ap, get_or, refl, ◌∙◌, Option, Some, None, arith, inl, inr}
 use Rattle.std.specs.Prelude.{nat_le, nat_lt, not, ◌==◌, is_none, slice_index_or, AllPairs}
-use Rattle.std.specs.List.{list_all}
+use Rattle.std.specs.List.{All, list_all}
 use Rattle.std.proofs.lemmas.Bool.{and_parts, false≢true, true≢false, eq-eqb, not-true, or_cases}
 use Rattle.std.proofs.lemmas.Option.{none-some}
 use Rattle.ats_num.specs.Places.{place_of}
@@ -11,7 +11,7 @@ use Rattle.ats_num.specs.declared.wire.TheConstants.{MIN_OCTETS, MAX_OCTETS}
 use Rattle.ats_topology.specs.Faults.{topology_fault}
 use Rattle.ats_topology.specs.Node.{is_station}
 use Rattle.ats_topology.specs.Port.{port_at}
-use Rattle.ats_topology.specs.Topology.{DeclaredTopology, topology_of, node_at, IsStationAt}
+use Rattle.ats_topology.specs.Topology.{DeclaredTopology, IsTopology, topology_of, node_at, IsStationAt}
 use Rattle.ats_topology.specs.Walks.{IsWalk}
 use Rattle.ats_topology.specs.declared.node.Node.{Node}
 use Rattle.ats_topology.specs.declared.link.Link.{Link}
@@ -27,7 +27,9 @@ use Rattle.ats_streams.specs.declared.branch.Branch.{Branch}
 use Rattle.ats_streams.specs.declared.branch.TheConstants.{MAX_BRANCHES}
 use Rattle.ats_streams.specs.declared.path.TheConstants.{MAX_PORTS}
 use Rattle.ats_streams.specs.declared.stream.TheConstants.{MAX_CLASS, MAX_DEADLINE_NS}
-use Rattle.ats_network.specs.Sender.{Sender}
+use Rattle.ats_network.specs.Rates.{HasRates, is_overrated}
+use Rattle.ats_network.specs.Sender.{Sender, stream_sender}
+use Rattle.ats_network.proofs.Rated.{has_rates}
 use Rattle.ats_network.specs.Path.{IsBranch, IsTree, IsValidPath, node_of_branch, nodes_along}
 use Rattle.ats_network.specs.Network.{DeclaredNetwork, HasOneListener, HasShortPath, HasShortRoutes, IsMostPorts}
 use Rattle.ats_network.specs.Network.{IsNetwork, Share, declared_network, long_network, names_of, network_within}
@@ -372,6 +374,18 @@ are_short network =
     list_all (has_short_routes network.most_ports) network.streams
     && list_all (has_short_path network.most_ports) network.flows
 
+-- no rate and no burst of a stream is over the limits of a scheduler at one of its ports
+abbrev pub is_rated : DeclaredTopology → DeclaredStream → Bool
+is_rated t s = not (is_overrated t (stream_sender s))
+
+rated_by : (t : DeclaredTopology) (streams : List DeclaredStream) → IsTopology t → All IsStream streams
+    → list_all (is_rated t) streams ≡ true → All (HasRates t) streams
+rated_by t streams is keep h k d within =
+    let s : DeclaredStream = get_or streams k d in
+    has_rates t s is (keep k d within).rules.rate.positive
+    (all_by (λ (s : DeclaredStream). is_overrated t (stream_sender s) ≡ false) (is_rated t)
+    (λ s rated. not-true (is_overrated t (stream_sender s)) rated) streams h k d within)
+
 -- the streams, the flows, their ports and names
 abbrev pub network_passes : DeclaredNetwork → Bool
 network_passes network =
@@ -382,7 +396,8 @@ network_passes network =
     && (pairs_pass has_none network.streams
     && (nat_le (length network.streams) MAX_STREAMS
     && (nat_le (length network.flows) MAX_FLOWS
-    && (nat_le (ports_together network.streams) MAX_PORTS_TOGETHER && are_short network)))))))
+    && (nat_le (ports_together network.streams) MAX_PORTS_TOGETHER
+    && (are_short network && list_all (is_rated network.topology) network.streams))))))))
 
 pub network_by_most : (most : ℕ) (nodes : List Node) (links : List Link) (streams : List DeclaredStream)
     (flows : List DeclaredFlow) → IsMostPorts most → topology_fault nodes links ≡ None
@@ -391,7 +406,8 @@ pub network_by_most : (most : ℕ) (nodes : List Node) (links : List Link) (stre
 network_by_most most nodes links streams flows of sound h =
     let network : DeclaredNetwork = network_within (topology_of nodes links) most streams flows in
     let names : List (List ℕ) = names_of (senders_of network) in
-    let ports : Bool = nat_le (ports_together streams) MAX_PORTS_TOGETHER && are_short network in
+    let rated : Bool = list_all (is_rated network.topology) streams in
+    let ports : Bool = nat_le (ports_together streams) MAX_PORTS_TOGETHER && (are_short network && rated) in
     let last : Bool = nat_le (length flows) MAX_FLOWS && ports in
     let few : Bool = pairs_pass has_none streams && (nat_le (length streams) MAX_STREAMS && last) in
     let found : Bool = each_below (is_found names) (length names) in
@@ -403,11 +419,14 @@ network_by_most most nodes links streams flows of sound h =
     let fifth = and_parts (pairs_pass has_none streams) (nat_le (length streams) MAX_STREAMS && last) fourth.1 in
     let sixth = and_parts (nat_le (length streams) MAX_STREAMS) last fifth.1 in
     let seventh = and_parts (nat_le (length flows) MAX_FLOWS) ports sixth.1 in
-    let eighth = and_parts (nat_le (ports_together streams) MAX_PORTS_TOGETHER) (are_short network) seventh.1 in
-    let ninth = and_parts (list_all (has_short_routes most) streams) (list_all (has_short_path most) flows) eighth.1 in
+    let eighth = and_parts (nat_le (ports_together streams) MAX_PORTS_TOGETHER) (are_short network && rated) seventh.1
+    in
+    let ninth = and_parts (are_short network) rated eighth.1 in
+    let tenth = and_parts (list_all (has_short_routes most) streams) (list_all (has_short_path most) flows) ninth.0 in
+    let keep : All IsStream streams = all_by IsStream is_any_stream any_stream_by streams first.0 in
     record {
       topology = topology_rules nodes links sound;
-      streams = all_by IsStream is_any_stream any_stream_by streams first.0;
+      streams = keep;
       flows = all_by IsFlow is_flow flow_by flows second.0;
       trees = all_by (λ (s : Sender). IsTree network.topology s.ports s.branches) (is_tree network.topology)
           (tree_by network.topology) (senders_of network) third.0;
@@ -419,8 +438,9 @@ network_by_most most nodes links streams flows of sound h =
       few_flows = le_of (length flows) MAX_FLOWS seventh.0;
       few_ports = le_of (ports_together streams) MAX_PORTS_TOGETHER eighth.0;
       most_ports = of;
-      short_streams = all_by (HasShortRoutes most) (has_short_routes most) (short_routes_by most) streams ninth.0;
-      short_flows = all_by (HasShortPath most) (has_short_path most) (short_path_by most) flows ninth.1;
+      short_streams = all_by (HasShortRoutes most) (has_short_routes most) (short_routes_by most) streams tenth.0;
+      short_flows = all_by (HasShortPath most) (has_short_path most) (short_path_by most) flows tenth.1;
+      rates = rated_by network.topology streams (topology_rules nodes links sound) keep ninth.1;
     }
 
 -- so are those with short routes, and with long ones

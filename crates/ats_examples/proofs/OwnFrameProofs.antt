@@ -5,19 +5,26 @@ use Rattle.std.specs.List.{list_all}
 use Rattle.std.proofs.lemmas.Bool.{and_parts}
 use Rattle.std.proofs.lemmas.List.Elements.{All-nil, All-cons, All-contains_itself}
 use Rattle.ats_topology.specs.Port.{port_at}
-use Rattle.ats_group.specs.Judge.{bucket_rule}
+use Rattle.ats_group.specs.Judge.{ats_judge, bucket_rule}
+use Rattle.ats_group_law.proofs.Regulator.{ats_is_regulator}
 use Rattle.ats_network.specs.Bridges.{IsBridgeAt}
 use Rattle.ats_network.specs.Network.{DeclaredNetwork, IsNetwork}
 use Rattle.ats_network.specs.Senders.{sender_at}
 use Rattle.ats_certificate.specs.declared.row.Row.{Row}
 use Rattle.ats_trace.specs.Journey.{Travel}
-use Rattle.ats_trace.specs.Run.{IsLegal, releases_of}
+use Rattle.ats_trace.specs.Clocks.{IsLegal}
+use Rattle.ats_trace.specs.Run.{IsIdeal, releases_of}
 use Rattle.ats_trace.specs.Stored.{travel_at}
-use Rattle.ats_trace.specs.Talker.{talker_of, KeepsBuckets}
+use Rattle.ats_trace.specs.Talker.{talker_of, KeepsBuckets, read_by}
 use Rattle.ats_trace.specs.Ways.{listener_count, route_to, way_to}
 use Rattle.ats_trace.specs.declared.journey.Release.{Release}
 use Rattle.ats_soundness_law.specs.Sound.{BridgesKeep, IsContained, IsContainedOn, IsServed, IsServedOn, all_but_first}
-use Rattle.ats_soundness_law.proofs.Soundness.{certificate_is_sound}
+use Rattle.ats_soundness_law.specs.Runs.{ats_runs, in_true_time}
+use Rattle.ats_soundness_law.specs.Sound.{BridgesKeepIn, IsSoundBy}
+use Rattle.ats_soundness_law.specs.TrueTime.{KeepsBucketsIn}
+use Rattle.ats_soundness_law.proofs.EachRule.{rule_of_holding}
+use Rattle.ats_soundness_law.proofs.Soundness.{sound_by_rules}
+use Rattle.ats_soundness_law.proofs.TrueTime.{certificate_is_sound}
 use Rattle.ats_examples.specs.Networks.{line_links, line_nodes, two_links, two_nodes}
 use Rattle.ats_examples.specs.OwnFrames.{EndsMayBabble, OwnAreContained, OwnBabblerCounts, OwnDelayCounts}
 use Rattle.ats_examples.specs.OwnFrames.{OwnFramesAreServed, long, long_nodes, long_rows, long_stay, long_streams}
@@ -27,7 +34,7 @@ use Rattle.ats_examples.proofs.BucketTest.{is_sized, keeps_by, stream_keeps}
 use Rattle.ats_examples.proofs.NetworkTest.{long_network_by}
 use Rattle.ats_examples.proofs.PartTest.{legal_by}
 use Rattle.ats_examples.proofs.RuleTest.{holds_by}
-use Rattle.ats_examples.proofs.StationTest.{quiet_by}
+use Rattle.ats_examples.proofs.StationTest.{keeps_in, quiet_by}
 use Rattle.ats_examples.proofs.Tests.{all_by, below_by, each_below, lt_of}
 
 -- Runs in which a bridge sends frames of its own.
@@ -65,22 +72,26 @@ is_kept network run j =
     && routes_keep network run j)
 
 -- is served, by the path law
+sound_of : (network : DeclaredNetwork) (rows : List Row) → IsCertified network rows
+    → IsSoundBy (in_true_time ats_judge bucket_rule) network rows
+sound_of network rows c = sound_by_rules ats_judge network rows ats_is_regulator.regulator c.rules
+    (rule_of_holding network rows c.holds)
+
 served_by : (network : DeclaredNetwork) (rows : List Row) (run : List Travel) → IsCertified network rows
-    → IsLegal network run → list_all (is_sized network) (releases_of run) ≡ true → (j : Travel) → Contains run j
+    → IsIdeal network run → list_all (is_sized network) (releases_of run) ≡ true → (j : Travel) → Contains run j
     → is_kept network run j ≡ true → IsServed rows (sender_at network j.release.sender) j
 served_by network rows run c legal sized j there h n within =
     let keeps : Bool =
     each_below (stream_keeps network (releases_of run) (talker_of network j.release.sender)) (length network.streams) in
     let first = and_parts (nat_lt j.release.sender (length network.streams)) (keeps && routes_keep network run j) h in
     let second = and_parts keeps (routes_keep network run j) first.1 in
-    (certificate_is_sound network rows c.rules c.holds).served run legal j there
-    (lt_of j.release.sender (length network.streams) first.0)
+    (sound_of network rows c).served run legal j there (lt_of j.release.sender (length network.streams) first.0)
     (keeps_by network (releases_of run) (talker_of network j.release.sender) second.0 sized) n within
     (keep_by network (releases_of run) (route_to (sender_at network j.release.sender) n)
     (below_by (λ k. list_all (node_keeps network (releases_of run)) (route_to (sender_at network j.release.sender) k))
     (listener_count (sender_at network j.release.sender)) second.1 n within) sized)
 
-pub own_legal : IsLegal own own_frames
+pub own_legal : IsIdeal own own_frames
 own_legal = legal_by own own_frames refl
 
 all_kept : All (λ (j : Travel). is_kept own own_frames j ≡ true) own_frames
@@ -129,16 +140,16 @@ own_babbler_counts = record {
 
 -- by the path law a frame of a stream with this number is served, in each legal run
 served_of : (network : DeclaredNetwork) (rows : List Row) (run : List Travel) → IsCertified network rows
-    → IsLegal network run → (i : ℕ) → i < length network.streams → (j : Travel) → Contains run j
-    → j.release.sender ≡ i → KeepsBuckets network (releases_of run) (talker_of network i)
+    → (legal : IsLegal network run) (i : ℕ) → i < length network.streams → (j : Travel) → Contains run j
+    → j.release.sender ≡ i → KeepsBucketsIn network run legal (talker_of network i)
     → (n : ℕ) → n < listener_count (sender_at network i)
-    → BridgesKeep bucket_rule network (releases_of run) (route_to (sender_at network i) n)
+    → BridgesKeepIn ats_runs network run legal (route_to (sender_at network i) n)
     → IsServedOn rows (sender_at network i) j.release (route_to (sender_at network i) n)
     (way_to (sender_at network i) j n)
 served_of network rows run c legal i stream j there is =
     let Served : ℕ → Type 0 = λ (k : ℕ).
-    KeepsBuckets network (releases_of run) (talker_of network k) → (n : ℕ) → n < listener_count (sender_at network k)
-    → BridgesKeep bucket_rule network (releases_of run) (route_to (sender_at network k) n)
+    KeepsBucketsIn network run legal (talker_of network k) → (n : ℕ) → n < listener_count (sender_at network k)
+    → BridgesKeepIn ats_runs network run legal (route_to (sender_at network k) n)
     → IsServedOn rows (sender_at network k) j.release (route_to (sender_at network k) n)
     (way_to (sender_at network k) j n) in
     subst Served is
@@ -147,13 +158,13 @@ served_of network rows run c legal i stream j there is =
 
 -- and by containment it is contained
 contained_of : (network : DeclaredNetwork) (rows : List Row) (run : List Travel) → IsCertified network rows
-    → IsLegal network run → (i : ℕ) → i < length network.streams → (j : Travel) → Contains run j
+    → (legal : IsLegal network run) (i : ℕ) → i < length network.streams → (j : Travel) → Contains run j
     → j.release.sender ≡ i → (n : ℕ) → n < listener_count (sender_at network i)
-    → BridgesKeep bucket_rule network (releases_of run) (all_but_first (route_to (sender_at network i) n))
+    → BridgesKeepIn ats_runs network run legal (all_but_first (route_to (sender_at network i) n))
     → IsContainedOn rows (sender_at network i) (route_to (sender_at network i) n) (way_to (sender_at network i) j n)
 contained_of network rows run c legal i stream j there is =
     let Contained : ℕ → Type 0 = λ (k : ℕ). (n : ℕ) → n < listener_count (sender_at network k)
-    → BridgesKeep bucket_rule network (releases_of run) (all_but_first (route_to (sender_at network k) n))
+    → BridgesKeepIn ats_runs network run legal (all_but_first (route_to (sender_at network k) n))
     → IsContainedOn rows (sender_at network k) (route_to (sender_at network k) n)
     (way_to (sender_at network k) j n) in
     subst Contained is
@@ -165,9 +176,11 @@ end_served : (run : List Travel) → IsLegal own run → KeepsBuckets own (relea
     → (j : Travel) → Contains run j → j.release.sender ≡ 2 → IsServed own_rows (sender_at own 2) j
 end_served run legal keeps j there is zero within =
     let Keeps : ℕ → Type 0 = λ p. IsBridgeAt own.topology (port_at own.topology.ports p).from
-    → KeepsBuckets own (releases_of run) (port_at own.topology.ports p).from in
-    served_of own own_rows run own_certified legal 2 (lit< tt) j there is keeps 0 (lit< tt)
-    (All-cons Keeps 0 [] (λ bridge. keeps) (All-nil Keeps))
+    → KeepsBucketsIn own run legal (port_at own.topology.ports p).from in
+    let by_clock : KeepsBucketsIn own run legal (talker_of own 2) =
+    keeps_in own run legal (talker_of own 2) refl keeps in
+    served_of own own_rows run own_certified legal 2 (lit< tt) j there is by_clock 0 (lit< tt)
+    (All-cons Keeps 0 [] (λ bridge. by_clock) (All-nil Keeps))
 end_served run legal keeps j there is (suc n) within = absurd (let one : suc n < 1 = within in omega (arith, one))
 
 -- three frames are more than the burst of the stream that begins at the bridge
@@ -218,9 +231,10 @@ bridge_contained : (run : List Travel) → IsLegal long_stay run → (j : Travel
     → j.release.sender ≡ 1 → IsContained long_rows (sender_at long_stay 1) j
 bridge_contained run legal j there is zero within =
     let Keeps : ℕ → Type 0 = λ p. IsBridgeAt long_stay.topology (port_at long_stay.topology.ports p).from
-    → KeepsBuckets long_stay (releases_of run) (port_at long_stay.topology.ports p).from in
+    → KeepsBucketsIn long_stay run legal (port_at long_stay.topology.ports p).from in
     contained_of long_stay long_rows run stay_certified legal 1 (lit< tt) j there is 0 (lit< tt)
-    (All-cons Keeps 4 [] (λ bridge. quiet_by bucket_rule long_stay (releases_of run) 3 refl) (All-nil Keeps))
+    (All-cons Keeps 4 [] (λ bridge. quiet_by bucket_rule long_stay (read_by (legal.clocks 3) (releases_of run)) 3 refl)
+    (All-nil Keeps))
 bridge_contained run legal j there is (suc n) within = absurd (let one : suc n < 1 = within in omega (arith, one))
 
 -- two frames are more than the burst, at the bridge that the first port leaves

@@ -15,7 +15,7 @@ use Rattle.ats_streams.specs.Branches.{branches_of}
 use Rattle.ats_streams.specs.declared.branch.Branch.{Branch}
 use Rattle.ats_trace.specs.Journey.{Leg, Travel, IsWay, IsSentOrEnds, IsReleased, BeginsAs, IsCopy, AreCopies, legs_in}
 use Rattle.ats_trace.specs.Journey.{record_at, trunk_at}
-use Rattle.ats_trace.specs.Run.{releases_of, IsLegal}
+use Rattle.ats_trace.specs.Run.{releases_of, IsIdeal}
 use Rattle.ats_trace.specs.declared.journey.Release.{Release}
 use Rattle.ats_trace.specs.HopRecord.{HopRecord}
 use Rattle.ats_trace.specs.declared.journey.Ending.{Ending}
@@ -284,5 +284,5 @@ others_by part network run h other differ =
       | inr passed ↦ kept_by other network run passed
     ]
 
-pub legal_by : (network : DeclaredNetwork) (run : List Travel) → all_pass network run ≡ true → IsLegal network run
+pub legal_by : (network : DeclaredNetwork) (run : List Travel) → all_pass network run ≡ true → IsIdeal network run
 legal_by network run h = (legal_is_each_part network run).1 (all_kept network run h)

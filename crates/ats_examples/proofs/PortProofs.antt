@@ -61,7 +61,7 @@ covers_by : (network : DeclaredNetwork) (row : Row) → HasSums row (port_sums n
     → IsEnough (port_at network.topology.ports row.port) row → Covers network row
 covers_by network row sums bound load wait = record { sums = sums; bound = bound; load = load; wait = wait }
 
-flow_streams : StreamsConform line_and_flow sent_behind_flow
+flow_streams : StreamsConform line_and_flow 0 sent_behind_flow
 flow_streams zero h = one_in_order 100000000 12336 (record { at = 1; bits = 12336 }) (omega arith)
 flow_streams (suc i) h = absurd (omega arith)
 
@@ -81,7 +81,7 @@ at_station = record {
   within = all_two (IsWithinBound line_and_flow row_with_flow) _ _ (λ class. absurd (cc)) (λ class. omega arith);
 }
 
-next_streams : StreamsConform line_and_flow sent_on_behind_flow
+next_streams : StreamsConform line_and_flow 2 sent_on_behind_flow
 next_streams zero h = one_in_order 100000000 12336 (record { at = 26172000; bits = 12336 }) (omega arith)
 next_streams (suc i) h = absurd (omega arith)
 
@@ -104,7 +104,7 @@ at_bridge = record {
 pub behind_flow : BehindFlow
 behind_flow = record { at_station = at_station; at_bridge = at_bridge }
 
-two_streams : StreamsConform fork sent_in_turn
+two_streams : StreamsConform fork 2 sent_in_turn
 two_streams zero h = one_in_order 100000000 12336 (record { at = 13836000; bits = 12336 }) (omega arith)
 two_streams (suc zero) h = one_in_order 100000000 12336 (record { at = 13836000; bits = 12336 }) (omega arith)
 two_streams (suc (suc i)) h = absurd (omega arith)
@@ -128,7 +128,7 @@ in_turn = record {
   whole = refl;
 }
 
-streams_at_s1 : StreamsConform fork (sent_at_once 0)
+streams_at_s1 : StreamsConform fork 0 (sent_at_once 0)
 streams_at_s1 zero h = one_in_order 100000000 12336 (record { at = 0; bits = 12336 }) (omega arith)
 streams_at_s1 (suc zero) h = none_in_order 100000000 12336
 streams_at_s1 (suc (suc i)) h = absurd (omega arith)
@@ -148,7 +148,7 @@ at_s1 = record {
   within = all_one (IsWithinBound fork (row_of_line 0 13836000)) _ (λ class. omega arith);
 }
 
-streams_at_s3 : StreamsConform fork (sent_at_once 1)
+streams_at_s3 : StreamsConform fork 4 (sent_at_once 1)
 streams_at_s3 zero h = none_in_order 100000000 12336
 streams_at_s3 (suc zero) h = one_in_order 100000000 12336 (record { at = 0; bits = 12336 }) (omega arith)
 streams_at_s3 (suc (suc i)) h = absurd (omega arith)
@@ -171,7 +171,7 @@ at_s3 = record {
 pub at_once : AtOnce
 at_once = record { at_s1 = at_s1; at_s3 = at_s3; whole_at_s1 = refl; whole_at_s3 = refl }
 
-class_streams : StreamsConform fork_of_classes sent_by_class
+class_streams : StreamsConform fork_of_classes 2 sent_by_class
 class_streams zero h = one_in_order 100000000 12336 (record { at = 13836000; bits = 12336 }) (omega arith)
 class_streams (suc zero) h = one_in_order 100000000 12336 (record { at = 13836000; bits = 12336 }) (omega arith)
 class_streams (suc (suc i)) h = absurd (omega arith)

@@ -53,7 +53,7 @@ abbrev pub keeps_port_rule : ℕ → List Transmission → Bool
 keeps_port_rule ps sent =
     waits_pass ps sent && (takes_pass ps sent && (apart_pass ps sent && (chosen_pass ps sent && prompt_pass ps sent)))
 
-of_each_by : (R : Transmission → Transmission → Type 0) (test : Transmission → Transmission → Bool)
+pub of_each_by : (R : Transmission → Transmission → Type 0) (test : Transmission → Transmission → Bool)
     → ((x y : Transmission) → test x y ≡ true → R x y) → (sent : List Transmission) → of_each test sent ≡ true
     → All (λ (x : Transmission). All (λ (y : Transmission). R x y) sent) sent
 of_each_by R test shows sent passed =
@@ -81,7 +81,7 @@ ahead_by x y h =
     and_parts (nat_le y.class x.class) (not (x.class == y.class) || nat_le x.eligible y.eligible) h in
     record {
       class = le_of y.class x.class parts.0;
-      eligible = λ same. le_of x.eligible y.eligible
+      no_later = λ same. le_of x.eligible y.eligible
           (implied (x.class == y.class) (nat_le x.eligible y.eligible) parts.1 (of_eq x.class y.class same));
     }
 

@@ -14,7 +14,7 @@ use Rattle.ats_examples.proofs.PortProofs.{at_s1}
 abbrev some_frame : Transmission
 some_frame = record { frame = 0; sender = 0; class = 0; bits = 0; eligible = 0; start = 0; end = 0 }
 
-late_streams : StreamsConform fork sent_late
+late_streams : StreamsConform fork 0 sent_late
 late_streams zero h = one_in_order 100000000 12336 (record { at = 0; bits = 12336 }) (omega arith)
 late_streams (suc zero) h = none_in_order 100000000 12336
 late_streams (suc (suc i)) h = absurd (omega arith)
@@ -50,7 +50,7 @@ conforming_counts = record {
   exceeded = record { valid = at_s1.valid; covers = at_s1.covers; beyond = twice_beyond };
 }
 
-longer_streams : StreamsConform line_and_flow sent_behind_longer
+longer_streams : StreamsConform line_and_flow 0 sent_behind_longer
 longer_streams zero h = one_in_order 100000000 12336 (record { at = 1; bits = 12336 }) (omega arith)
 longer_streams (suc i) h = absurd (omega arith)
 
@@ -70,7 +70,7 @@ sizes_count = record {
   exceeded = record { valid = at_station.valid; covers = at_station.covers; beyond = longer_beyond };
 }
 
-flow_streams : StreamsConform line_and_flow sent_by_flow
+flow_streams : StreamsConform line_and_flow 0 sent_by_flow
 flow_streams zero h = none_in_order 100000000 12336
 flow_streams (suc i) h = absurd (omega arith)
 

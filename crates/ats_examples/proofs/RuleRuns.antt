@@ -1,7 +1,7 @@
 use Rattle.std.proofs.Common.{List, [], ◌∷◌, None, refl}
 use Rattle.ats_group.specs.declared.verdict.Verdict.TheVariants.{Late}
 use Rattle.ats_trace.specs.Journey.{Travel}
-use Rattle.ats_trace.specs.Run.{IsLegal, releases_of}
+use Rattle.ats_trace.specs.Run.{IsIdeal, releases_of}
 use Rattle.ats_trace.specs.Talker.{KeepsBuckets}
 use Rattle.ats_trace.specs.declared.journey.Ending.TheVariants.{Discard}
 use Rattle.ats_examples.specs.Networks.{line, line_and_flow, pair, below, fast}
@@ -49,31 +49,31 @@ of_fast =
     (hop 6168000 6168000 12336000 24672000 ∷ hop 26172000 26172000 26172000 38508000 ∷ []) 39008000
     ∷ []
 
-pub two_legal : IsLegal (pair 1000000) of_two
+pub two_legal : IsIdeal (pair 1000000) of_two
 two_legal = legal_by (pair 1000000) of_two refl
 
 pub two_kept : KeepsBuckets (pair 1000000) (releases_of of_two) 0
 two_kept = keeps_by (pair 1000000) (releases_of of_two) 0 refl refl
 
-pub three_legal : IsLegal (pair 12335) of_three
+pub three_legal : IsIdeal (pair 12335) of_three
 three_legal = legal_by (pair 12335) of_three refl
 
 pub three_kept : KeepsBuckets (pair 12335) (releases_of of_three) 0
 three_kept = keeps_by (pair 12335) (releases_of of_three) 0 refl refl
 
-pub classes_legal : IsLegal below of_classes
+pub classes_legal : IsIdeal below of_classes
 classes_legal = legal_by below of_classes refl
 
 pub classes_kept : KeepsBuckets below (releases_of of_classes) 0
 classes_kept = keeps_by below (releases_of of_classes) 0 refl refl
 
-pub fast_legal : IsLegal fast of_fast
+pub fast_legal : IsIdeal fast of_fast
 fast_legal = legal_by fast of_fast refl
 
 pub fast_kept : KeepsBuckets fast (releases_of of_fast) 0
 fast_kept = keeps_by fast (releases_of of_fast) 0 refl refl
 
-pub flow_legal : IsLegal line_and_flow behind_a_flow
+pub flow_legal : IsIdeal line_and_flow behind_a_flow
 flow_legal = legal_by line_and_flow behind_a_flow refl
 
 pub flow_kept : KeepsBuckets line_and_flow (releases_of behind_a_flow) 0

@@ -8,6 +8,7 @@ use Rattle.std.proofs.lemmas.Option.{none-some, same_Some}
 use Rattle.std.proofs.lemmas.List.Sums.{AllPass-from_list_all}
 use Rattle.ats_num.specs.declared.time.TheConstants.{PS_PER_SECOND, PS_PER_NS}
 use Rattle.ats_topology.specs.Port.{port_at}
+use Rattle.ats_topology.specs.Topology.{DeclaredTopology}
 use Rattle.ats_streams.specs.Branches.{routes_of}
 use Rattle.ats_streams.specs.Stream.{DeclaredStream}
 use Rattle.ats_network.specs.Sender.{Sender, stream_sender}
@@ -15,7 +16,7 @@ use Rattle.ats_network.specs.Class.{class_at, seen_at}
 use Rattle.ats_network.specs.Network.{DeclaredNetwork}
 use Rattle.ats_network.specs.Residence.{residence_after}
 use Rattle.ats_certificate.specs.PortSums.{PortSums, port_sums, uses, is_of, is_used, senders_at}
-use Rattle.ats_certificate.specs.Certificate.{row_of, IsBefore, FitsLink, bound_of, residence_needed, bound_on}
+use Rattle.ats_certificate.specs.Certificate.{row_of, IsBefore, FitsLink, bound_of, need_behind, bound_on}
 use Rattle.ats_certificate.specs.Certificate.{IsInTime, MeetsDeadline, Holds}
 use Rattle.ats_certificate.specs.declared.row.Row.{Row}
 use Rattle.ats_soundness_law.specs.Rules.{Rule, rows_are_there, higher_is_right, equal_is_right, bursts_are_right}
@@ -45,21 +46,24 @@ along_by given port s (p ∷ path) passed goes =
 abbrev are_covered : List Row → List Sender → Bool
 are_covered given senders = list_all (λ (s : Sender). has_rows_along given s s.ports) senders
 
-covered_by : (given : List Row) (port class : ℕ) (senders : List Sender) → are_covered given senders ≡ true
-    → list_any (is_of class) (senders_at port senders) ≡ true → IsSome (row_of given port class)
-covered_by given port class [] passed used = absurd (false≢true used)
-covered_by given port class (s ∷ senders) passed used = by (uses port s) refl (covered_by given port class senders) used
+covered_by : (topology : DeclaredTopology) (given : List Row) (port class : ℕ) (senders : List Sender)
+    → are_covered given senders ≡ true → list_any (is_of class) (senders_at topology port senders) ≡ true
+    → IsSome (row_of given port class)
+covered_by topology given port class [] passed used = absurd (false≢true used)
+covered_by topology given port class (s ∷ senders) passed used = by (uses port s) refl
+    (covered_by topology given port class senders) used
   where
     parts : (has_rows_along given s s.ports ≡ true) × (are_covered given senders ≡ true)
     parts = and_parts (has_rows_along given s s.ports) (are_covered given senders) passed
 
     by : (b : Bool) → uses port s ≡ b → (are_covered given senders ≡ true
-        → list_any (is_of class) (senders_at port senders) ≡ true → IsSome (row_of given port class))
-        → list_any (is_of class) (map (seen_at port) (cond b (s ∷ filter (uses port) senders)
+        → list_any (is_of class) (senders_at topology port senders) ≡ true → IsSome (row_of given port class))
+        → list_any (is_of class) (map (seen_at topology port) (cond b (s ∷ filter (uses port) senders)
         (filter (uses port) senders))) ≡ true
         → IsSome (row_of given port class)
     by true on rest h =
-        elim (or_cases (is_of class (seen_at port s)) (list_any (is_of class) (senders_at port senders)) h) [
+        elim (or_cases (is_of class (seen_at topology port s))
+        (list_any (is_of class) (senders_at topology port senders)) h) [
           | inl same ↦ subst (λ (c : ℕ). IsSome (row_of given port c)) (eqb-true (class_at s port) class same)
               (along_by given port s s.ports parts.0 on)
           | inr later ↦ rest parts.1 later
@@ -116,8 +120,7 @@ stays_by need (Some limit) h ns given =
 
 abbrev may_stay : DeclaredNetwork → Row → Bool
 may_stay network row =
-    stays (residence_needed (port_at network.topology.ports row.port) row.wait)
-    (residence_after network.topology row.port)
+    stays (need_behind network row.port row.wait) (residence_after network.topology row.port)
 
 -- the rows keep a rule
 abbrev pub passes : Rule → DeclaredNetwork → List Row → Bool
@@ -135,7 +138,7 @@ passes frames_may_stay network given = list_all (may_stay network) given
 pub kept_by : (rule : Rule) (network : DeclaredNetwork) (given : List Row) → passes rule network given ≡ true
     → Keeps rule network given
 kept_by rows_are_there network given h =
-    λ port class used. covered_by given port class (map stream_sender network.streams) h used
+    λ port class used. covered_by network.topology given port class (map stream_sender network.streams) h used
 kept_by higher_is_right network given h = column_by (λ row. row.higher) (λ sums. sums.higher) network given h
 kept_by equal_is_right network given h = column_by (λ row. row.equal) (λ sums. sums.equal) network given h
 kept_by bursts_are_right network given h = column_by (λ row. row.bursts) (λ sums. sums.bursts) network given h
@@ -149,7 +152,7 @@ kept_by wait_is_enough network given h =
     (PS_PER_SECOND * ((port_at network.topology.ports row.port).ps_per_bit * (row.lower + row.bursts - row.least)))
     (row.wait * (PS_PER_SECOND - row.higher))) given h
 kept_by frames_may_stay network given h =
-    all_by _ (may_stay network) (λ row. stays_by (residence_needed (port_at network.topology.ports row.port) row.wait)
+    all_by _ (may_stay network) (λ row. stays_by (need_behind network row.port row.wait)
     (residence_after network.topology row.port)) given h
 
 -- the rows are of used ports and classes and in order, and the streams are in time

@@ -6,15 +6,14 @@ use Rattle.ats_network.specs.Network.{DeclaredNetwork}
 use Rattle.ats_network.specs.Senders.{sender_at}
 use Rattle.ats_certificate.specs.Certificate.{IsBefore}
 use Rattle.ats_certificate.specs.declared.row.Row.{Row}
-use Rattle.ats_group.specs.Judge.{ats_judge, bucket_rule}
-use Rattle.ats_group_law.proofs.Regulator.{ats_is_regulator}
+use Rattle.ats_trace.specs.Clocks.{IsLegal}
 use Rattle.ats_trace.specs.Journey.{Travel, IsOfStream}
-use Rattle.ats_trace.specs.Run.{IsLegal, releases_of}
+use Rattle.ats_trace.specs.Run.{IsIdeal, releases_of}
 use Rattle.ats_trace.specs.Stored.{no_travel, travel_at}
 use Rattle.ats_trace.specs.Talker.{talker_of, KeepsBuckets}
 use Rattle.ats_trace.proofs.ExactLinks.{links_are_exact}
 use Rattle.ats_soundness_law.specs.Sound.{IsServed, IsContained}
-use Rattle.ats_soundness_law.proofs.Soundness.{certificate_is_sound, sound_by_rules}
+use Rattle.ats_soundness_law.proofs.TrueTime.{certificate_is_sound, sound_by_clocks}
 use Rattle.ats_examples.specs.Networks.{line, fork, over_two, over_three, ranged_line}
 use Rattle.ats_examples.specs.Runs.{one_frame}
 use Rattle.ats_examples.specs.ChangedRuns.{sunk_late}
@@ -35,7 +34,7 @@ use Rattle.ats_examples.specs.PacedRuns.{arriving}
 use Rattle.ats_examples.proofs.PaceProofs.{arrivals_legal}
 use Rattle.ats_examples.proofs.NetworkProofs.{line_is, two_is, three_is, fork_is, ranged_is}
 use Rattle.ats_examples.proofs.RuleTest.{all_kept, holds_by}
-use Rattle.ats_examples.proofs.StationTest.{begin_at_stations, from_stations}
+use Rattle.ats_examples.proofs.StationTest.{begin_at_stations, from_stations, legal_of}
 
 two_certified : IsCertified over_two two_rows
 two_certified = record { rules = two_is; holds = holds_by over_two two_rows refl refl }
@@ -48,12 +47,12 @@ fork_certified = record { rules = fork_is; holds = holds_by fork fork_rows refl 
 
 -- by the path law
 pub served_in : (network : DeclaredNetwork) (rows : List Row) (run : List Travel) (j : Travel)
-    → IsCertified network rows → begin_at_stations network ≡ true → IsLegal network run → Contains run j
+    → IsCertified network rows → begin_at_stations network ≡ true → IsIdeal network run → Contains run j
     → IsOfStream network j → KeepsBuckets network (releases_of run) (talker_of network j.release.sender)
     → IsServed rows (sender_at network j.release.sender) j
 served_in network rows run j c stations legal there stream keeps =
-    (from_stations bucket_rule ats_judge network rows stations
-    (certificate_is_sound network rows c.rules c.holds)).served run legal j there stream keeps
+    (from_stations network rows stations (certificate_is_sound network rows c.rules c.holds)).served run
+    (legal_of network run c.rules legal) j there stream keeps
 
 two_kept : KeepsBuckets over_two (releases_of (one_over_two ∷ [])) 0
 two_kept = keeps_by over_two (releases_of (one_over_two ∷ [])) 0 refl refl
@@ -107,8 +106,8 @@ pub contained_in : (network : DeclaredNetwork) (rows : List Row) (run : List Tra
     → IsLegal network run → Contains run j → IsOfStream network j
     → IsContained rows (sender_at network j.release.sender) j
 contained_in network rows run j c stations legal there stream =
-    (from_stations bucket_rule ats_judge network rows stations
-    (certificate_is_sound network rows c.rules c.holds)).contained run legal j there stream
+    (from_stations network rows stations (certificate_is_sound network rows c.rules c.holds)).contained run legal j
+    there stream
 
 pub bridged_sound : BridgedAreSound
 bridged_sound = record {
@@ -133,14 +132,17 @@ bridged_sound = record {
     not_kept = two_not_kept;
     not_served = two_not_served;
     contained = contained_in over_two two_rows (two_over_two 163868000) (travel_at (two_over_two 163868000) 1)
-        two_certified refl bridged_legal.two_over_two (1, lit< tt, refl) (lit< tt);
+        two_certified refl
+        (legal_of over_two (two_over_two 163868000) two_is bridged_legal.two_over_two) (1, lit< tt, refl) (lit< tt);
   };
   second_over_three = record {
     legal = bridged_legal.two_over_three;
     not_kept = three_not_kept;
     not_served = three_not_served;
     contained = contained_in over_three three_rows (two_over_three 177704000) (travel_at (two_over_three 177704000) 1)
-        three_certified refl bridged_legal.two_over_three (1, lit< tt, refl) (lit< tt);
+        three_certified refl
+        (legal_of over_three (two_over_three 177704000) three_is bridged_legal.two_over_three) (1, lit< tt, refl)
+        (lit< tt);
   };
   eligible_later = record {
     not_contained = not_so_late;
@@ -184,7 +186,8 @@ babbler_contained = record {
   served = served_in fork fork_rows babbler (travel_at babbler 0) fork_certified refl babbler_legal (0, lit< tt, refl)
       (lit< tt) beside_kept;
   sum = refl;
-  contained = λ k d h. contained_in fork fork_rows babbler (get_or babbler k d) fork_certified refl babbler_legal
+  contained = λ k d h. contained_in fork fork_rows babbler (get_or babbler k d) fork_certified refl
+      (legal_of fork babbler fork_is babbler_legal)
       (All-contains_itself babbler k d h) (of_streams k d h);
 }
 
@@ -231,6 +234,5 @@ not_before ordered =
 pub order_does_not_count : OrderDoesNotCount
 order_does_not_count = record {
   not_held = λ holds. not_before holds.rows_of.ordered;
-  sound = sound_by_rules ats_judge line turned_rows ats_is_regulator.regulator line_is
-      (all_kept line turned_rows refl);
+  sound = sound_by_clocks line turned_rows line_is (all_kept line turned_rows refl);
 }

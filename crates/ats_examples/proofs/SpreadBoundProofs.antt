@@ -2,7 +2,7 @@ use Rattle.std.proofs.Common.{◌≡◌, ℕ, ◌+◌, ◌<◌, ◌≤◌, true,
 use Rattle.ats_network.specs.Senders.{sender_at}
 use Rattle.ats_trace.specs.Journey.{Travel}
 use Rattle.ats_trace.specs.Parts.{links, Keeps}
-use Rattle.ats_trace.specs.Run.{IsLegal, releases_of}
+use Rattle.ats_trace.specs.Run.{IsIdeal, releases_of}
 use Rattle.ats_trace.specs.Stored.{travel_at}
 use Rattle.ats_trace.specs.Talker.{talker_of, KeepsBuckets}
 use Rattle.ats_soundness_law.specs.Rules.{frames_may_stay}
@@ -28,7 +28,7 @@ certified = record { rules = ranged_is 12464 refl refl; holds = rules.holds_by r
 latest_kept : KeepsBuckets ranged_line (releases_of (arriving 13836000)) (talker_of ranged_line 0)
 latest_kept = keeps_by ranged_line (releases_of (arriving 13836000)) (talker_of ranged_line 0) refl refl
 
-stays_legal : IsLegal ranged_line last_stays
+stays_legal : IsIdeal ranged_line last_stays
 stays_legal = legal_by ranged_line last_stays refl
 
 stays_kept : KeepsBuckets ranged_line (releases_of last_stays) (talker_of ranged_line 0)
@@ -47,7 +47,7 @@ next_late served =
 
 -- where the residence is 1 ns shorter, the last frame is discarded
 short_unsound : ¬ IsSound (ranged 12463) line_rows
-short_unsound = unsound_by (ranged 12463) line_rows (last_is_late 14812000) 2 refl
+short_unsound = unsound_by (ranged 12463) line_rows (last_is_late 14812000) 2 (ranged_is 12463 refl refl) refl
     (legal_by (ranged 12463) (last_is_late 14812000) refl) (2, lit< tt, refl) (lit< tt)
     (keeps_by (ranged 12463) (releases_of (last_is_late 14812000)) (talker_of (ranged 12463) 0) refl refl)
     (λ served. (served 0 (lit< tt)).prompt.1)

@@ -1,7 +1,7 @@
 use Rattle.std.specs.Prelude.{List, [], ◌∷◌}
 use Rattle.ats_num.specs.Tie.{late_key}
 use Rattle.ats_trace.specs.Journey.{Travel}
-use Rattle.ats_trace.specs.Run.{IsLegal, IsRunBy}
+use Rattle.ats_trace.specs.Run.{IsIdeal, IsRunBy}
 use Rattle.ats_trace.specs.declared.journey.Ending.TheVariants.{Discard}
 use Rattle.ats_examples.specs.Networks.{line, line_and_flow, fork}
 use Rattle.ats_examples.specs.Runs.{hop, sunk, first_goes_first, second_goes_first}
@@ -95,19 +95,19 @@ flow_eligible_early =
 -- from the way and the release, so a run without its sender breaks those too. And neither order of the two frames that
 -- become eligible together is that of the other key
 pub record ChangedExamplesAreNot : Type 0 where
-  pub in_order : ¬ IsLegal line_and_flow released_later
-  pub sender : ¬ IsLegal line of_no_sender
-  pub octets : ¬ IsLegal line of_63_octets
-  pub way : ¬ IsLegal line not_received
-  pub links : ¬ IsLegal line sunk_late
-  pub came : ¬ IsLegal line comes_late
-  pub released : ¬ IsLegal line_and_flow held_at_station
-  pub waits : ¬ IsLegal line started_early
-  pub takes : ¬ IsLegal line sent_slowly
-  pub apart : ¬ IsLegal line_and_flow overlapped
-  pub chosen : ¬ IsLegal line_and_flow passed_over
-  pub prompt : ¬ IsLegal line started_late
-  pub groups : ¬ IsLegal line_and_flow eligible_early
-  pub flows : ¬ IsLegal line_and_flow flow_eligible_early
+  pub in_order : ¬ IsIdeal line_and_flow released_later
+  pub sender : ¬ IsIdeal line of_no_sender
+  pub octets : ¬ IsIdeal line of_63_octets
+  pub way : ¬ IsIdeal line not_received
+  pub links : ¬ IsIdeal line sunk_late
+  pub came : ¬ IsIdeal line comes_late
+  pub released : ¬ IsIdeal line_and_flow held_at_station
+  pub waits : ¬ IsIdeal line started_early
+  pub takes : ¬ IsIdeal line sent_slowly
+  pub apart : ¬ IsIdeal line_and_flow overlapped
+  pub chosen : ¬ IsIdeal line_and_flow passed_over
+  pub prompt : ¬ IsIdeal line started_late
+  pub groups : ¬ IsIdeal line_and_flow eligible_early
+  pub flows : ¬ IsIdeal line_and_flow flow_eligible_early
   pub tie_by_frame : ¬ IsRunBy late_key greatest_wait fork first_goes_first
   pub tie_by_sender : ¬ IsRunBy frame_key least_wait fork second_goes_first

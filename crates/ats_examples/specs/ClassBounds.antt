@@ -2,7 +2,7 @@ use Rattle.std.specs.Prelude.{◌≡◌, ℕ, ◌+◌, List, [], ◌∷◌}
 use Rattle.ats_network.specs.Senders.{sender_at}
 use Rattle.ats_certificate.specs.Certificate.{bound_at, Holds}
 use Rattle.ats_trace.specs.Journey.{Travel}
-use Rattle.ats_trace.specs.Run.{IsLegal, releases_of}
+use Rattle.ats_trace.specs.Run.{IsIdeal, releases_of}
 use Rattle.ats_trace.specs.Stored.{travel_at}
 use Rattle.ats_trace.specs.Talker.{talker_of, KeepsBuckets}
 use Rattle.ats_soundness_law.specs.Sound.{ArrivesBy, IsServed}
@@ -32,10 +32,10 @@ pub record ClassesAreSound : Type 0 where
   pub other : IsServed hop_rows (sender_at fork_of_classes 1) (travel_at second_goes_first 1)
   pub sum_of_lowered : sum_of fork_of_classes hop_rows (travel_at second_goes_first 0) ≡ 41674667
   pub sum_of_other : sum_of fork_of_classes hop_rows (travel_at second_goes_first 1) ≡ 39008000
-  pub legal : IsLegal fork_of_classes (behind_two 6720000)
+  pub legal : IsIdeal fork_of_classes (behind_two 6720000)
   pub keeps : KeepsBuckets fork_of_classes (releases_of (behind_two 6720000)) (talker_of fork_of_classes 0)
   pub other_keeps : KeepsBuckets fork_of_classes (releases_of (behind_two 6720000)) (talker_of fork_of_classes 1)
   pub served : IsServed hop_rows (sender_at fork_of_classes 0) (travel_at (behind_two 6720000) 0)
   pub beyond : ¬ ArrivesBy (bound_at hop_rows 0 6 + bound_at hop_rows 2 6) (travel_at (behind_two 6720000) 0).ending
-  pub sooner : IsLegal fork_of_classes (behind_two 6719999)
+  pub sooner : IsIdeal fork_of_classes (behind_two 6719999)
   pub too_soon : ¬ KeepsBuckets fork_of_classes (releases_of (behind_two 6719999)) (talker_of fork_of_classes 1)

@@ -3,7 +3,7 @@ use Rattle.ats_num.specs.Pace.{drawn_wait}
 use Rattle.ats_num.specs.Tie.{late_key, mixed_key}
 use Rattle.ats_trace.specs.Journey.{Travel}
 use Rattle.ats_trace.specs.Parts.{chosen, groups}
-use Rattle.ats_trace.specs.Run.{IsLegal, IsRunBy}
+use Rattle.ats_trace.specs.Run.{IsIdeal, IsRunBy}
 use Rattle.ats_examples.specs.Networks.{fork_of_classes, line_lowered, line_raised}
 use Rattle.ats_examples.specs.Runs.{hop, sunk, first_goes_first, second_goes_first, held_by_group, group_by_class}
 use Rattle.ats_examples.specs.LegalRuns.{frame_key, least_wait, greatest_wait}
@@ -34,14 +34,14 @@ pub record ClassesOfPorts : Type 0 where
   pub by_sender : IsRunBy late_key greatest_wait fork_of_classes second_goes_first
   pub mixed : IsRunBy (mixed_key 1) (drawn_wait 1) fork_of_classes second_goes_first
   pub by_first_class : BreaksAlone chosen fork_of_classes first_goes_first
-  pub raised : IsLegal line_raised raised_second
+  pub raised : IsIdeal line_raised raised_second
   pub by_next_class : BreaksAlone chosen line_raised raised_first
 
 -- and behind a port its group is that of its class at this port: of two streams of class 6 at the station one waits for
 -- the other, though its class at the bridge is 5; and one of class 5 there waits for none of class 6, though it has
 -- their class at the bridge
 pub record ClassesOfGroups : Type 0 where
-  pub lowered : IsLegal line_lowered held_by_group
+  pub lowered : IsIdeal line_lowered held_by_group
   pub by_next_class : BreaksAlone groups line_lowered group_by_class
-  pub raised : IsLegal line_raised group_by_class
+  pub raised : IsIdeal line_raised group_by_class
   pub held_by_other : BreaksAlone groups line_raised held_by_group

@@ -8,6 +8,7 @@ use Rattle.ats_trace.specs.Journey.{Travel}
 use Rattle.ats_trace.specs.Run.{IsLegalBy, releases_of}
 use Rattle.ats_trace.specs.Talker.{talker_of, KeepsBuckets}
 use Rattle.ats_trace.specs.declared.journey.Ending.TheVariants.{Discard}
+use Rattle.ats_soundness_law.specs.Runs.{in_true_time}
 use Rattle.ats_soundness_law.specs.Sound.{IsServed, IsSoundBy}
 use Rattle.ats_examples.specs.Networks.{line}
 use Rattle.ats_examples.specs.Runs.{hop}
@@ -34,5 +35,5 @@ pub record RegulatorCounts : Type 0 where
   pub legal : IsLegalBy discards line (discarded ∷ [])
   pub keeps : KeepsBuckets line (releases_of (discarded ∷ [])) (talker_of line 0)
   pub not_served : ¬ IsServed line_rows (sender_at line 0) discarded
-  pub unsound : ¬ IsSoundBy discards bucket_rule line line_rows
+  pub unsound : ¬ IsSoundBy (in_true_time discards bucket_rule) line line_rows
   pub no_regulator : ¬ IsRegulator discards bucket_rule

@@ -8,7 +8,7 @@ use Rattle.ats_network.specs.Senders.{sender_at}
 use Rattle.ats_certificate.specs.Certificate.{Holds}
 use Rattle.ats_group.specs.Judge.{bucket_rule}
 use Rattle.ats_trace.specs.Journey.{Travel, IsOfStream}
-use Rattle.ats_trace.specs.Run.{IsLegal, releases_of}
+use Rattle.ats_trace.specs.Run.{IsIdeal, releases_of}
 use Rattle.ats_trace.specs.Stored.{travel_at}
 use Rattle.ats_trace.specs.Talker.{talker_of, KeepsBuckets}
 use Rattle.ats_trace.specs.Ways.{route_to}
@@ -37,7 +37,7 @@ held_back = travel_at regulated 1
 pub record LawsAreMet : Type 0 where
   pub network : IsNetwork line
   pub holds : Holds line line_rows
-  pub legal : IsLegal line one_frame
+  pub legal : IsIdeal line one_frame
   pub among : Contains one_frame the_frame
   pub of_stream : IsOfStream line the_frame
   pub keeps : KeepsBuckets line (releases_of one_frame) (talker_of line the_frame.release.sender)
@@ -51,7 +51,7 @@ pub record LawsAreMet : Type 0 where
       })
   pub sum : sum_by (bounds_of line_rows (sender_at line the_frame.release.sender))
       (sender_at line the_frame.release.sender).ports ≡ 26672000
-  pub beyond : IsLegal line regulated
+  pub beyond : IsIdeal line regulated
   pub not_kept : ¬ KeepsBuckets line (releases_of regulated) (talker_of line 0)
   pub not_served : ¬ IsServed line_rows (sender_at line 0) held_back
   pub not_prompt : ¬ IsPromptIfEligible (bounds_of line_rows (sender_at line 0)) (sender_at line 0).ports held_back.hops
@@ -62,7 +62,7 @@ pub record LawsAreMet : Type 0 where
 pub record BridgesAreMet : Type 0 where
   pub network : IsNetwork own
   pub holds : Holds own own_rows
-  pub legal : IsLegal own own_frames
+  pub legal : IsIdeal own own_frames
   pub among : Contains own_frames (travel_at own_frames 2)
   pub of_stream : IsOfStream own (travel_at own_frames 2)
   pub keeps : KeepsBuckets own (releases_of own_frames) (talker_of own 0)

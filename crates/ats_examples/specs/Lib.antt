@@ -20,4 +20,6 @@ pub mod SoundRuns
 pub mod ClassBounds
 pub mod SpreadBounds
 pub mod OwnFrames
+pub mod SlowClocks
+pub mod ClockedRuns
 pub mod Groups

@@ -14,7 +14,7 @@ station name = record { name = name; kind = Station }
 
 -- a bridge with a processing time of 1000 ns and this maximum residence time in nanoseconds
 abbrev pub bridge : List ℕ → ℕ → Node
-bridge name residence_ns = record { name = name; kind = Bridge 1000 1000 residence_ns }
+bridge name residence_ns = record { name = name; kind = Bridge 1000 1000 residence_ns 0 0 }
 
 -- a link of 1000 Mb/s, on which a bit takes 1000 ps, with a propagation of 500 ns
 abbrev pub link : List ℕ → List ℕ → Link
@@ -123,7 +123,7 @@ line_raised = line_with 1000000 (stream_of (codes "b") (0 ∷ 2 ∷ []) (5 ∷ 6
 
 -- a bridge that takes 200 to 1000 ns to process a frame, with this maximum residence time in nanoseconds
 abbrev pub ranged_bridge : List ℕ → ℕ → Node
-ranged_bridge name residence_ns = record { name = name; kind = Bridge 200 1000 residence_ns }
+ranged_bridge name residence_ns = record { name = name; kind = Bridge 200 1000 residence_ns 0 0 }
 
 -- the line over such a bridge: port 0 has an earliest latency of 700000 ps, and a latency of 1500000 ps
 abbrev pub ranged_nodes : ℕ → List Node

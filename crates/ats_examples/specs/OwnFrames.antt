@@ -9,7 +9,8 @@ use Rattle.ats_network.specs.Network.{DeclaredNetwork, long_network}
 use Rattle.ats_network.specs.Senders.{sender_at}
 use Rattle.ats_certificate.specs.declared.row.Row.{Row}
 use Rattle.ats_trace.specs.Journey.{Travel}
-use Rattle.ats_trace.specs.Run.{IsLegal, releases_of}
+use Rattle.ats_trace.specs.Clocks.{IsLegal}
+use Rattle.ats_trace.specs.Run.{IsIdeal, releases_of}
 use Rattle.ats_trace.specs.Stored.{travel_at}
 use Rattle.ats_trace.specs.Talker.{talker_of, KeepsBuckets}
 use Rattle.ats_trace.specs.Ways.{route_to}
@@ -57,7 +58,7 @@ own_frames =
 pub record OwnFramesAreServed : Type 0 where
   pub certified : IsCertified own own_rows
   pub bridge : IsBridgeAt own.topology (talker_of own 1)
-  pub legal : IsLegal own own_frames
+  pub legal : IsIdeal own own_frames
   pub station_keeps : KeepsBuckets own (releases_of own_frames) (talker_of own 0)
   pub bridge_keeps : KeepsBuckets own (releases_of own_frames) (talker_of own 1)
   pub served : All (λ (j : Travel). IsServed own_rows (sender_at own j.release.sender) j) own_frames
@@ -83,7 +84,7 @@ own_babbler =
 -- bounds
 pub record OwnBabblerCounts : Type 0 where
   pub certified : IsCertified own own_rows
-  pub legal : IsLegal own own_babbler
+  pub legal : IsIdeal own own_babbler
   pub keeps : KeepsBuckets own (releases_of own_babbler) (talker_of own 0)
   pub babbles : ¬ KeepsBuckets own (releases_of own_babbler) (talker_of own 1)
   pub not_served : ¬ IsServed own_rows (sender_at own 0) (travel_at own_babbler 0)
@@ -104,7 +105,7 @@ own_beside =
 -- keeps its buckets, whatever the bridge sends
 pub record EndsMayBabble : Type 0 where
   pub certified : IsCertified own own_rows
-  pub legal : IsLegal own own_beside
+  pub legal : IsIdeal own own_beside
   pub babbles : ¬ KeepsBuckets own (releases_of own_beside) (talker_of own 1)
   pub keeps : KeepsBuckets own (releases_of own_beside) (talker_of own 2)
   pub served : (run : List Travel) → IsLegal own run → KeepsBuckets own (releases_of run) (talker_of own 2)
@@ -172,7 +173,7 @@ own_delay =
 -- it is discarded, though its talker keeps its buckets
 pub record OwnDelayCounts : Type 0 where
   pub certified : IsCertified long long_rows
-  pub legal : IsLegal long own_delay
+  pub legal : IsIdeal long own_delay
   pub keeps : KeepsBuckets long (releases_of own_delay) (talker_of long 0)
   pub babbles : ¬ KeepsBuckets long (releases_of own_delay) (talker_of long 1)
   pub not_served : ¬ IsServed long_rows (sender_at long 0) (travel_at own_delay 21)
@@ -193,7 +194,7 @@ own_held =
 -- frames of its stream are contained, whatever this bridge sends
 pub record OwnAreContained : Type 0 where
   pub certified : IsCertified long_stay long_rows
-  pub legal : IsLegal long_stay own_held
+  pub legal : IsIdeal long_stay own_held
   pub babbles : ¬ BridgesKeep bucket_rule long_stay (releases_of own_held) (route_to (sender_at long_stay 1) 0)
   pub not_served : ¬ IsServed long_rows (sender_at long_stay 1) (travel_at own_held 1)
   pub contained : (run : List Travel) → IsLegal long_stay run → (j : Travel) → Contains run j

@@ -3,7 +3,7 @@ use Rattle.ats_num.specs.Pace.{drawn_wait}
 use Rattle.ats_num.specs.Tie.{late_key, mixed_key}
 use Rattle.ats_trace.specs.Journey.{Travel}
 use Rattle.ats_trace.specs.Parts.{links}
-use Rattle.ats_trace.specs.Run.{IsLegal, IsRunBy}
+use Rattle.ats_trace.specs.Run.{IsIdeal, IsRunBy}
 use Rattle.ats_examples.specs.Networks.{ranged_line, over_two_ranged}
 use Rattle.ats_examples.specs.Runs.{hop, sunk}
 use Rattle.ats_examples.specs.LegalRuns.{frame_key, least_wait, greatest_wait}
@@ -42,13 +42,13 @@ arriving_next at =
 
 -- a frame may arrive at both ends of its interval and inside it, and as soon as the frame before it has
 pub record ArrivalsAreLegal : Type 0 where
-  pub earliest : IsLegal ranged_line (arriving 13036000)
-  pub inside : IsLegal ranged_line (arriving 13036007)
-  pub latest : IsLegal ranged_line (arriving 13836000)
-  pub behind : IsLegal ranged_line (second_arriving 2172001)
-  pub last : IsLegal ranged_line (second_arriving 2844000)
-  pub next_earliest : IsLegal over_two_ranged (arriving_next 26072000)
-  pub next_latest : IsLegal over_two_ranged (arriving_next 26872000)
+  pub earliest : IsIdeal ranged_line (arriving 13036000)
+  pub inside : IsIdeal ranged_line (arriving 13036007)
+  pub latest : IsIdeal ranged_line (arriving 13836000)
+  pub behind : IsIdeal ranged_line (second_arriving 2172001)
+  pub last : IsIdeal ranged_line (second_arriving 2844000)
+  pub next_earliest : IsIdeal over_two_ranged (arriving_next 26072000)
+  pub next_latest : IsIdeal over_two_ranged (arriving_next 26872000)
 
 -- not 1 ps outside the interval, and neither with the frame before it nor before that
 pub record ArrivalsBreakLinks : Type 0 where

@@ -1,6 +1,7 @@
 use Rattle.std.specs.Prelude.{◌≡◌, ℕ, ◌<◌, List, [], ◌∷◌, false, IsTrue, length, All}
 use Rattle.ats_topology.specs.Port.{port_at}
 use Rattle.ats_network.specs.Network.{DeclaredNetwork, IsNetwork}
+use Rattle.ats_network.specs.Rates.{committed_at}
 use Rattle.ats_network.specs.Senders.{sender_at}
 use Rattle.ats_certificate.specs.PortSums.{is_used}
 use Rattle.ats_certificate.specs.Certificate.{Covers}
@@ -45,10 +46,11 @@ pub record IsExceeded (network : DeclaredNetwork) (row : Row) (sent : List Trans
   pub covers : Covers network row
   pub beyond : ¬ All (IsWithinBound network row) sent
 
--- the frames of each stream conform
-abbrev pub StreamsConform : DeclaredNetwork → List Transmission → Type 0
-StreamsConform network sent = (i : ℕ) → i < length network.streams
-    → ConformsInOrder (sender_at network i).rate (sender_at network i).burst_bits (frames_by i sent)
+-- the frames of each stream conform to what a port sees of it
+abbrev pub StreamsConform : DeclaredNetwork → ℕ → List Transmission → Type 0
+StreamsConform network port sent = (i : ℕ) → i < length network.streams
+    → ConformsInOrder (committed_at network.topology port (sender_at network i)).rate
+    (committed_at network.topology port (sender_at network i)).burst_bits (frames_by i sent)
 
 -- all but the port rule
 pub record PortRuleCounts : Type 0 where
@@ -67,7 +69,7 @@ pub record ConformingCounts : Type 0 where
 pub record SizesCount : Type 0 where
   pub used : IsTrue (is_used line_and_flow 0 6)
   pub rule : KeepsPortRule (port_at line_and_flow.topology.ports 0).ps_per_bit sent_behind_longer
-  pub conform : StreamsConform line_and_flow sent_behind_longer
+  pub conform : StreamsConform line_and_flow 0 sent_behind_longer
   pub longer : All (IsDeclared with_longer_flow 0) sent_behind_longer
   pub exceeded : IsExceeded line_and_flow row_with_flow sent_behind_longer
 

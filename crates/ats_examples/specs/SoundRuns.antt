@@ -4,7 +4,8 @@ use Rattle.ats_network.specs.Senders.{sender_at}
 use Rattle.ats_certificate.specs.Certificate.{Holds}
 use Rattle.ats_certificate.specs.declared.row.Row.{Row}
 use Rattle.ats_trace.specs.Journey.{Travel}
-use Rattle.ats_trace.specs.Run.{IsLegal, releases_of}
+use Rattle.ats_trace.specs.Clocks.{IsLegal}
+use Rattle.ats_trace.specs.Run.{IsIdeal, releases_of}
 use Rattle.ats_trace.specs.ExactLinks.{HaveOneLatency, IsLegalAt}
 use Rattle.ats_trace.specs.Stored.{travel_at}
 use Rattle.ats_trace.specs.Talker.{talker_of, KeepsBuckets}
@@ -33,7 +34,7 @@ sum_of network rows j =
 -- a frame of a legal run whose talker keeps its buckets: it is served, and arrives exactly when the sum of its bounds
 -- is over
 pub record IsServedExactly (network : DeclaredNetwork) (rows : List Row) (run : List Travel) (j : Travel) : Type 0 where
-  pub legal : IsLegal network run
+  pub legal : IsIdeal network run
   pub keeps : KeepsBuckets network (releases_of run) (talker_of network j.release.sender)
   pub served : IsServed rows (sender_at network j.release.sender) j
   pub whole : j.ending ≡ Sink (record { 0 = j.release.at.0 + sum_of network rows j })
@@ -41,7 +42,7 @@ pub record IsServedExactly (network : DeclaredNetwork) (rows : List Row) (run : 
 -- a frame of a legal run whose talker does not: it is not served, but from the first bridge on it is contained
 pub record IsContainedAlone (network : DeclaredNetwork) (rows : List Row) (run : List Travel)
     (j : Travel) : Type 0 where
-  pub legal : IsLegal network run
+  pub legal : IsIdeal network run
   pub not_kept : ¬ KeepsBuckets network (releases_of run) (talker_of network j.release.sender)
   pub not_served : ¬ IsServed rows (sender_at network j.release.sender) j
   pub contained : IsContained rows (sender_at network j.release.sender) j
@@ -72,7 +73,7 @@ pub record BridgedAreSound : Type 0 where
 -- beside a babbler, whose last frame is discarded, the other station's frame is served; and each frame is contained
 pub record BabblerIsContained : Type 0 where
   pub certified : IsCertified fork fork_rows
-  pub legal : IsLegal fork babbler
+  pub legal : IsIdeal fork babbler
   pub babbles : ¬ KeepsBuckets fork (releases_of babbler) (talker_of fork 1)
   pub not_served : ¬ IsServed fork_rows (sender_at fork 1) (travel_at babbler 23)
   pub keeps : KeepsBuckets fork (releases_of babbler) (talker_of fork 0)
@@ -89,7 +90,7 @@ pub record ExactExamples : Type 0 where
 pub record ExactnessCounts : Type 0 where
   pub network : IsNetwork ranged_line
   pub not_one : ¬ HaveOneLatency ranged_line.topology.ports
-  pub legal : IsLegal ranged_line (arriving 13036000)
+  pub legal : IsIdeal ranged_line (arriving 13036000)
   pub not_exact : ¬ IsLegalAt ranged_line (arriving 13036000)
 
 -- the rows of the line in another order are no certificate, and sound

@@ -5,7 +5,7 @@ use Rattle.ats_certificate.specs.declared.row.Row.{Row}
 use Rattle.ats_group.specs.declared.verdict.Verdict.TheVariants.{Late}
 use Rattle.ats_trace.specs.Journey.{Travel}
 use Rattle.ats_trace.specs.Parts.{links}
-use Rattle.ats_trace.specs.Run.{IsLegal, releases_of}
+use Rattle.ats_trace.specs.Run.{IsIdeal, releases_of}
 use Rattle.ats_trace.specs.Stored.{travel_at}
 use Rattle.ats_trace.specs.Talker.{talker_of, KeepsBuckets}
 use Rattle.ats_trace.specs.declared.journey.Ending.TheVariants.{Discard}
@@ -69,7 +69,7 @@ pub record PacesAreSound : Type 0 where
   pub over_two : IsCertified over_two_ranged two_rows
   pub next : IsServed two_rows (sender_at over_two_ranged 0) (travel_at (arriving_next 26872000) 0)
   pub next_late : ¬ IsServed two_rows (sender_at over_two_ranged 0) (travel_at (arriving_next 26872001) 0)
-  pub legal : IsLegal ranged_line last_stays
+  pub legal : IsIdeal ranged_line last_stays
   pub keeps : KeepsBuckets ranged_line (releases_of last_stays) (talker_of ranged_line 0)
   pub served : IsServed line_rows (sender_at ranged_line 0) (travel_at last_stays 2)
   pub spread_counts : rule.BreaksAlone frames_may_stay (ranged 12463) line_rows

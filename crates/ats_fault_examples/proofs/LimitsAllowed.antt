@@ -42,6 +42,9 @@ topology_limits = record {
   processing = refl;
   residence = refl;
   propagation = refl;
+  worst_clock = refl;
+  deviation = refl;
+  step = refl;
   processing_back = refl;
   rate = refl;
 }

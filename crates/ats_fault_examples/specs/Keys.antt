@@ -30,6 +30,8 @@ pub record TopologyKeysAreNamed : Type 0 where
   pub least_processing : key_text key.ProcessingMinNs ≡ codes "processing_min_ns"
   pub greatest_processing : key_text key.ProcessingMaxNs ≡ codes "processing_max_ns"
   pub residence : key_text key.ResidenceNs ≡ codes "residence_ns"
+  pub deviation : key_text key.ClockPpm ≡ codes "clock_ppm"
+  pub step : key_text key.ClockStepPs ≡ codes "clock_step_ps"
   pub one_end : key_text key.A ≡ codes "a"
   pub other_end : key_text key.B ≡ codes "b"
   pub rate : key_text key.Mbps ≡ codes "mbps"

@@ -57,7 +57,11 @@ one_station = record { name = codes "s1"; kind = Station }
 -- propagation between them
 abbrev pub bridged : ℕ → ℕ → ℕ → List Node
 bridged least most residence =
-    one_station ∷ record { name = codes "b1"; kind = Bridge least most residence } ∷ []
+    one_station ∷ record { name = codes "b1"; kind = Bridge least most residence 0 0 } ∷ []
+
+-- the same, where the bridge takes no time, and its clock has this deviation and this step
+abbrev pub clocked : ℕ → ℕ → List Node
+clocked deviation step = one_station ∷ record { name = codes "b1"; kind = Bridge 0 0 0 deviation step } ∷ []
 
 abbrev pub linked : ℕ → ℕ → Link
 linked mbps propagation = record { a = codes "s1"; b = codes "b1"; mbps = mbps; propagation_ns = propagation }
@@ -65,14 +69,17 @@ linked mbps propagation = record { a = codes "s1"; b = codes "b1"; mbps = mbps; 
 abbrev pub one_link : ℕ → ℕ → List Link
 one_link mbps propagation = linked mbps propagation ∷ []
 
--- the greatest times of a bridge and a link, each a nanosecond too long, a least processing over the greatest, and a
--- rate that no link has
+-- the greatest times of a bridge and a link, each a nanosecond too long, a clock with the greatest deviation and the
+-- greatest step, each one too great, a least processing over the greatest, and a rate that no link has
 pub record TopologyLimits : Type 0 where
   pub greatest : topology_fault (bridged 1000000 1000000 1000000000) (one_link 100000 1000000) ≡ None
   pub least : topology_fault (bridged 0 0 0) (one_link 10 0) ≡ None
   pub processing : topology_fault (bridged 0 1000001 0) (one_link 10 0) ≡ Some Limit
   pub residence : topology_fault (bridged 0 0 1000000001) (one_link 10 0) ≡ Some Limit
   pub propagation : topology_fault (bridged 0 0 0) (one_link 10 1000001) ≡ Some Limit
+  pub worst_clock : topology_fault (clocked 1000 10000000) (one_link 10 0) ≡ None
+  pub deviation : topology_fault (clocked 1001 0) (one_link 10 0) ≡ Some Limit
+  pub step : topology_fault (clocked 0 10000001) (one_link 10 0) ≡ Some Limit
   pub processing_back : topology_fault (bridged 6 5 0) (one_link 10 0) ≡ Some (BadProcessing 2)
   pub rate : topology_fault (bridged 0 0 0) (one_link 20 0) ≡ Some (BadRate 1)
 

@@ -12,7 +12,7 @@ use Rattle.ats_file_examples.specs.Shown.{CrowdIsWritten, accepted, explained, s
 -- What is printed of the network, by computation.
 
 show_is : show_text crowd ≡ shown
-unfolding digits show.show_text show.port_line show.classes_text show.sender_line show.totals_line
+unfolding digits show.show_text show.port_line show.classes_text show.rates_line show.sender_line show.totals_line
 show_is = refl
 
 check_is : accepted_text crowd crowd_rows ≡ accepted

@@ -8,8 +8,9 @@ use Rattle.ats_file_examples.specs.Alone.{FlowsAreWritten}
 
 pub flows_are_written : FlowsAreWritten
 unfolding
-    digits show.show_text show.port_line show.classes_text show.sender_line show.totals_line explain.explain_text
-    explain.stream_line explain.wait_text explain.bound_text explain.hop_line explain.port_line explain.counts_text
+    digits show.show_text show.port_line show.classes_text show.rates_line show.sender_line show.totals_line
+    explain.explain_text explain.stream_line explain.wait_text explain.bound_text explain.hop_line explain.port_line
+    explain.counts_text
 flows_are_written = record {
   show = refl;
   explain = refl;

@@ -57,7 +57,7 @@ none_yet = long_network fork.topology [] []
 -- what becomes of the stream of an entry over these legs
 abbrev over : file.DeclaredStream → Result DeclaredNetwork NetFault
 over entry =
-    stream_made none_yet.most_ports (at_stream 1) entry (stream_over legs entry)
+    stream_made none_yet.topology none_yet.most_ports (at_stream 1) entry (stream_over legs entry)
     >>= λ stream. unless (refusal_of (at_stream 1)) (stream_push_fault none_yet stream) (with_stream none_yet stream)
 
 -- the network of tables whose one stream comes to this
@@ -125,7 +125,7 @@ no_legs = no_tree Three fork.topology (at_stream 1) twice ((0 ∷ 2 ∷ []) ∷ 
 
 refused : network_in (document_with twice (6 ∷ 5 ∷ 4 ∷ [])) ≡ Err (fault.BadPath Stream 1)
 refused = stream_comes (entry twice (6 ∷ 5 ∷ 4 ∷ [])) (Err (fault.BadPath Stream 1))
-    (ap (λ (r : Result DeclaredLegs NetFault). r >>= λ found. stream_made 64 (at_stream 1)
+    (ap (λ (r : Result DeclaredLegs NetFault). r >>= λ found. stream_made none_yet.topology 64 (at_stream 1)
     (entry twice (6 ∷ 5 ∷ 4 ∷ []))
     (stream_over found (entry twice (6 ∷ 5 ∷ 4 ∷ [])))
     >>= λ stream. unless (refusal_of (at_stream 1)) (stream_push_fault none_yet stream) (with_stream none_yet stream))

@@ -19,7 +19,7 @@ use Rattle.ats_network_table.specs.declared.format.Format.TheVariants.{One, Thre
 use Rattle.ats_network_toml.specs.Document as file
 use Rattle.ats_network_toml.specs.Reading.{format_in, tree_of}
 use Rattle.ats_network_file.specs.Routes.{path_of}
-use Rattle.ats_network_file_law.specs.Formats.{AreOfOneMeaning, SaysNothingNew}
+use Rattle.ats_network_file_law.specs.Formats.{AreOfOneMeaning, SaysNoClock, SaysNothingNew}
 use Rattle.ats_network_file_law.specs.OneListener.{AreWrittenByPath, IsWrittenByPath}
 use Rattle.ats_network_file_law.specs.Several.{IsStationNamed}
 use Rattle.ats_certificate.specs.Certificate.{IsBefore}
@@ -57,12 +57,18 @@ by_ends =
     (member (codes "min_octets") (integer (pos 66)) (member (codes "name") (string (codes "b"))
     (member (codes "rate_bps") (integer (pos 2)) (member (codes "to") (string (codes "s1")) no_members)))))))
 
+-- its bridge
+abbrev no_clock : Members
+no_clock =
+    member (codes "name") (string (codes "b1")) (member (codes "processing_max_ns") (integer (pos 2))
+    (member (codes "processing_min_ns") (integer (pos 1)) (member (codes "residence_ns") (integer (pos 3)) no_members)))
+
 -- and its top table, with a number of its format
 abbrev top_of_format : ℕ → Members
 top_of_format n =
-    member (codes "format") (integer (pos n))
+    member (codes "bridge") (array (item (table no_clock) no_items)) (member (codes "format") (integer (pos n))
     (member (codes "station") (array (item (table (member (codes "name") (string (codes "s1")) no_members)) no_items))
-    (member (codes "stream") (array (item (table by_nodes) (item (table by_ends) no_items))) no_members))
+    (member (codes "stream") (array (item (table by_nodes) (item (table by_ends) no_items))) no_members)))
 
 in_three : tree_of (text_of_format (codes "3")) ≡ Some (top_of_format 3)
 unfolding parsed
@@ -91,6 +97,7 @@ one_meaning = record {
   format = refl;
   nothing_new = All-cons SaysNothingNew by_nodes (by_ends ∷ []) nodes_say
       (All-cons SaysNothingNew by_ends [] ends_say (All-nil SaysNothingNew));
+  no_clocks = All-cons SaysNoClock no_clock [] (record { deviation = refl; step = refl }) (All-nil SaysNoClock);
   no_streams_for_ports = refl;
   no_flows_for_ports = refl;
 }

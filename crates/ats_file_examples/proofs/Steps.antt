@@ -135,12 +135,12 @@ one_more added network next n entry entries is =
 pub stream_is : (format : Format) (network : DeclaredNetwork) (n : Place) (entry : file.DeclaredStream)
     (legs : DeclaredLegs) (due : Result DeclaredNetwork NetFault)
     → legs_in format network.topology n entry.routes ≡ Ok legs
-    → (stream_made network.most_ports n entry (stream_over legs entry)
+    → (stream_made network.topology network.most_ports n entry (stream_over legs entry)
     >>= λ stream. unless (refusal_of n) (stream_push_fault network stream) (with_stream network stream)) ≡ due
     → stream_added format network n entry ≡ due
 stream_is format network n entry legs due found made =
     ap (λ (r : Result DeclaredLegs NetFault). r
-    >>= λ found. stream_made network.most_ports n entry (stream_over found entry)
+    >>= λ found. stream_made network.topology network.most_ports n entry (stream_over found entry)
     >>= λ stream. unless (refusal_of n) (stream_push_fault network stream) (with_stream network stream)) found
     ∙ made
 

@@ -1,5 +1,6 @@
 use Rattle.std.specs.Prelude.{◌≡◌, ℕ, List, [], ◌∷◌, ◌++◌, codes, None, Ok}
 use Rattle.ats_topology.specs.Topology.{DeclaredTopology, topology_of}
+use Rattle.ats_topology.specs.declared.node.Kind.TheVariants.{Bridge}
 use Rattle.ats_streams.specs.Flow.{DeclaredFlow, declared_flow}
 use Rattle.ats_streams.specs.Stream.{DeclaredStream, declared_stream}
 use Rattle.ats_network.specs.Network.{DeclaredNetwork, long_network}
@@ -7,7 +8,7 @@ use Rattle.ats_network_table.specs.declared.format.Format.TheVariants.{Three}
 use Rattle.ats_network_toml.specs.Document.{DeclaredDocument, path}
 use Rattle.ats_network_toml.specs.Reading.{document_of}
 use Rattle.ats_network_file.specs.Reading.{network_of}
-use Rattle.ats_examples.specs.Networks.{bridge, line_links, line_nodes, link, station}
+use Rattle.ats_examples.specs.Networks.{line_links, line_nodes, link, station}
 
 -- Network files with a stream and a flow for each port, and with two of them, beside a stream and a flow.
 
@@ -27,7 +28,14 @@ at_ports_document = record {
   format = Three;
   stations = record { name = codes "s1" } ∷ record { name = codes "s2" } ∷ [];
   bridges =
-      record { name = codes "b1"; processing_min_ns = 1000; processing_max_ns = 1000; residence_ns = 1000000 } ∷ [];
+      record {
+        name = codes "b1";
+        processing_min_ns = 1000;
+        processing_max_ns = 1000;
+        residence_ns = 1000000;
+        clock_ppm = 0;
+        clock_step_ps = 0;
+      } ∷ [];
   links =
       record { a = codes "s1"; b = codes "b1"; mbps = 1000; propagation_ns = 500 }
       ∷ record { a = codes "b1"; b = codes "s2"; mbps = 1000; propagation_ns = 500 } ∷ [];
@@ -65,12 +73,13 @@ flows =
 abbrev pub at_ports : DeclaredNetwork
 at_ports = long_network line_topology streams flows
 
--- one link: port 0 leads from s1 to b1, port 1 back. Two streams for each port, of which the second has a deadline of
--- its own, and two flows, among a flow and a stream
+-- one link: port 0 leads from s1 to b1, which has a clock, port 1 back. Two streams for each port, of which the second
+-- has a deadline of its own, and two flows, among a flow and a stream
 abbrev pub several_text : List ℕ
 several_text =
     codes "format = 3\n[[station]]\nname = \"s1\"\n[[bridge]]\nname = \"b1\"\n"
     ++ codes "processing_min_ns = 1000\nprocessing_max_ns = 1000\nresidence_ns = 1000000\n"
+    ++ codes "clock_ppm = 100\nclock_step_ps = 8000\n"
     ++ codes "[[link]]\na = \"s1\"\nb = \"b1\"\nmbps = 1000\npropagation_ns = 500\n"
     ++ codes "[[link_local]]\nname = \"g\"\nclass = 7\nrate_bps = 8800\nburst_bits = 880\nmin_octets = 64\n"
     ++ codes "max_octets = 90\n[[flow]]\nname = \"f\"\npath = [\"b1\", \"s1\"]\nmax_octets = 1500\n"
@@ -86,7 +95,14 @@ several_document = record {
   format = Three;
   stations = record { name = codes "s1" } ∷ [];
   bridges =
-      record { name = codes "b1"; processing_min_ns = 1000; processing_max_ns = 1000; residence_ns = 1000000 } ∷ [];
+      record {
+        name = codes "b1";
+        processing_min_ns = 1000;
+        processing_max_ns = 1000;
+        residence_ns = 1000000;
+        clock_ppm = 100;
+        clock_step_ps = 8000;
+      } ∷ [];
   links = record { a = codes "s1"; b = codes "b1"; mbps = 1000; propagation_ns = 500 } ∷ [];
   streams =
       record {
@@ -126,7 +142,8 @@ several_document = record {
 
 -- the network: the stream and then those along the ports, entry by entry, and so the flows
 abbrev pub pair_topology : DeclaredTopology
-pair_topology = topology_of (station (codes "s1") ∷ bridge (codes "b1") 1000000 ∷ [])
+pair_topology = topology_of
+    (station (codes "s1") ∷ record { name = codes "b1"; kind = Bridge 1000 1000 1000000 100 8000 } ∷ [])
     (link (codes "s1") (codes "b1") ∷ [])
 
 abbrev pub along_h : List ℕ → ℕ → DeclaredStream

@@ -58,9 +58,23 @@ two_times = codes "processing_min_ns=1,processing_max_ns=1,residence_ns=2"
 -- what the tables of such a text declare
 abbrev pub bridges_from : ℕ → ℕ → List BridgeEntry
 bridges_from k zero =
-    record { name = letter k; processing_min_ns = 1; processing_max_ns = 1; residence_ns = 2 } ∷ []
+    record {
+      name = letter k;
+      processing_min_ns = 1;
+      processing_max_ns = 1;
+      residence_ns = 2;
+      clock_ppm = 0;
+      clock_step_ps = 0;
+    } ∷ []
 bridges_from k (suc n) =
-    record { name = letter k; processing_min_ns = 1; processing_max_ns = 1; residence_ns = 2 } ∷ bridges_from (k + 1) n
+    record {
+      name = letter k;
+      processing_min_ns = 1;
+      processing_max_ns = 1;
+      residence_ns = 2;
+      clock_ppm = 0;
+      clock_step_ps = 0;
+    } ∷ bridges_from (k + 1) n
 
 abbrev pub joined : List ℕ → List ℕ → LinkEntry
 joined a b = record { a = a; b = b; mbps = 100; propagation_ns = 0 }

@@ -25,7 +25,14 @@ use Rattle.ats_file_examples.specs.NetworkText.{links_text, network_text, nodes_
 -- a bridge and a link by their numbers, in the order of the keys in the file
 abbrev pub bridge : List ℕ → ℕ → ℕ → ℕ → BridgeEntry
 bridge name least most residence =
-    record { name = name; processing_min_ns = least; processing_max_ns = most; residence_ns = residence }
+    record {
+      name = name;
+      processing_min_ns = least;
+      processing_max_ns = most;
+      residence_ns = residence;
+      clock_ppm = 0;
+      clock_step_ps = 0;
+    }
 
 abbrev pub link : List ℕ → List ℕ → ℕ → ℕ → LinkEntry
 link a b mbps propagation = record { a = a; b = b; mbps = mbps; propagation_ns = propagation }
@@ -131,9 +138,9 @@ abbrev pub crowd_nodes : List Node
 crowd_nodes =
     record { name = codes "s1"; kind = Station } ∷ record { name = codes "s2"; kind = Station }
     ∷ record { name = codes "s3"; kind = Station } ∷ record { name = codes "s4"; kind = Station }
-    ∷ record { name = codes "b1"; kind = Bridge 701 1501 300001 }
-    ∷ record { name = codes "b2"; kind = Bridge 802 1602 300002 }
-    ∷ record { name = codes "b3"; kind = Bridge 903 1703 300003 } ∷ []
+    ∷ record { name = codes "b1"; kind = Bridge 701 1501 300001 0 0 }
+    ∷ record { name = codes "b2"; kind = Bridge 802 1602 300002 0 0 }
+    ∷ record { name = codes "b3"; kind = Bridge 903 1703 300003 0 0 } ∷ []
 
 abbrev pub linked : List ℕ → List ℕ → ℕ → ℕ → Link
 linked a b mbps propagation = record { a = a; b = b; mbps = mbps; propagation_ns = propagation }

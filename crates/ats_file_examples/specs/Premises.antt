@@ -24,10 +24,12 @@ use Rattle.ats_file_examples.specs.NetworkText.{network_text}
 
 -- What the laws of formats, and of names of ports, ask for: each premise is met by worked files.
 
--- a text of this format with two streams, of which one has its path and one its ends
+-- a text of this format with a bridge and two streams, of which one has its path and one its ends
 abbrev pub text_of_format : List ℕ → List ℕ
 text_of_format n =
-    codes "format = " ++ n ++ codes "\n[[station]]\nname = \"s1\"\n[[stream]]\nname = \"a\"\npath = [\"s1\", \"s2\"]\n"
+    codes "format = " ++ n ++ codes "\n[[station]]\nname = \"s1\"\n"
+    ++ codes "[[bridge]]\nname = \"b1\"\nprocessing_min_ns = 1\nprocessing_max_ns = 2\nresidence_ns = 3\n"
+    ++ codes "[[stream]]\nname = \"a\"\npath = [\"s1\", \"s2\"]\n"
     ++ codes "class = 6\nrate_bps = 1\nburst_bits = 672\nmin_octets = 64\nmax_octets = 65\n"
     ++ codes "[[stream]]\nname = \"b\"\nfrom = \"s2\"\nto = \"s1\"\n"
     ++ codes "class = 5\nrate_bps = 2\nburst_bits = 673\nmin_octets = 66\nmax_octets = 67\n"
@@ -66,7 +68,7 @@ long digit = codes "gateway-of-the-left_FRONT_door-" ++ digit ∷ []
 abbrev pub long_nodes : List Node
 long_nodes =
     record { name = long 49; kind = Station } ∷ record { name = long 50; kind = Station }
-    ∷ record { name = long 51; kind = Bridge 1 2 3 } ∷ []
+    ∷ record { name = long 51; kind = Bridge 1 2 3 0 0 } ∷ []
 
 abbrev pub long_links : List Link
 long_links = linked (long 49) (long 51) 100 41 ∷ linked (long 51) (long 50) 1000 42 ∷ []

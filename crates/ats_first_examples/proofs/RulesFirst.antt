@@ -1,5 +1,5 @@
 use Rattle.std.proofs.Common.{refl}
-use Rattle.ats_first_examples.specs.Rules.{EntriesAreJudged, FlowRulesAreFirst, FlowsComeIn, RulesAreFirst}
+use Rattle.ats_first_examples.specs.Rules.{EntriesAreJudged, FlowRulesAreFirst, FlowsComeIn, RatesComeIn, RulesAreFirst}
 use Rattle.ats_first_examples.specs.Rules.{StreamRulesAreFirst, StreamsComeIn}
 
 -- Rules of streams and flows by computation.
@@ -51,6 +51,20 @@ flows_come_in = record {
   last = refl;
 }
 
+rates_come_in : RatesComeIn
+rates_come_in = record {
+  most = refl;
+  over = refl;
+  burst_most = refl;
+  burst_over = refl;
+  ends_most = refl;
+  ends_over = refl;
+  ideal = refl;
+  taken = refl;
+  asked_most = refl;
+  asked = refl;
+}
+
 entries_are_judged : EntriesAreJudged
 entries_are_judged = record {
   both = refl;
@@ -65,5 +79,6 @@ rules_are_first = record {
   flows = flow_rules_are_first;
   streams_come = streams_come_in;
   flows_come = flows_come_in;
+  rates_come = rates_come_in;
   entries = entries_are_judged;
 }

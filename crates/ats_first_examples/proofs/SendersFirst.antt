@@ -1,25 +1,32 @@
-use Rattle.std.proofs.Common.{◌≡◌, List, [], ◌∷◌, ◌++◌, Some, None, Result, Ok, Err, refl, ap, ◌∙◌}
+use Rattle.std.proofs.Common.{◌≡◌, ℕ, true, List, [], ◌∷◌, ◌++◌, Some, None, Result, Ok, Err, refl, ap, ◌∙◌}
 use Rattle.std.specs.Prelude.{codes}
-use Rattle.ats_num.specs.Failure.{◌>>=◌}
+use Rattle.ats_num.specs.Failure.{◌>>=◌, unless}
 use Rattle.ats_topology.specs.Topology.{DeclaredTopology, topology_of}
 use Rattle.ats_streams.specs.Stream.{declared_stream}
 use Rattle.ats_streams.specs.declared.fault.StreamFault.TheVariants as rule
-use Rattle.ats_network.specs.Network.{DeclaredNetwork, declared_network}
+use Rattle.ats_network.specs.Network.{DeclaredNetwork, declared_network, long_network}
+use Rattle.ats_network.specs.Path.{IsValidPath}
+use Rattle.ats_network.specs.Pushes.{stream_push_fault, with_stream}
 use Rattle.ats_network_table.specs.declared.format.Format.TheVariants.{One, Three, Two}
 use Rattle.ats_network_toml.specs.Document as file
 use Rattle.ats_network_file.specs.Reading.{links_of, nodes_of}
-use Rattle.ats_network_file.specs.Senders.{all_added, alone, flow_added, legs_in, path_in, placed, stream_added}
+use Rattle.ats_network_file.specs.Routes.{may_declare, ports_of_each}
+use Rattle.ats_network_file.specs.Senders.{all_added, alone, flow_added, legs_in, path_in, placed, refusal_of}
+use Rattle.ats_network_file.specs.Senders.{stream_added, stream_made, stream_over}
 use Rattle.ats_network_file.specs.declared.senders.Place.{Place}
 use Rattle.ats_network_file.specs.declared.fault.NetFault.{NetFault}
 use Rattle.ats_network_file.specs.declared.fault.NetFault.TheVariants as fault
-use Rattle.ats_network_file.specs.declared.senders.SenderTable.TheVariants.{Flow, Stream}
+use Rattle.ats_network_file.specs.declared.senders.SenderTable.{SenderTable}
+use Rattle.ats_network_file.specs.declared.senders.SenderTable.TheVariants.{Flow, LinkLocal, Stream}
 use Rattle.ats_examples.proofs.NetworkTest.{valid_from_by}
 use Rattle.ats_file_examples.proofs.Steps.{at_flow, at_stream, flow_is, legs_is, none_more, one_leg, one_more}
 use Rattle.ats_file_examples.proofs.Steps.{path_is, stream_is}
 use Rattle.ats_text_examples.specs.Worked.{way}
-use Rattle.ats_first_examples.specs.Senders.{EntriesAreFirst, EntriesAreTold, FlowsAreFirst, RoutesAreJudged}
-use Rattle.ats_first_examples.specs.Senders.{SendersAreFirst, StreamsAreFirst, along, between, file_with, first, flow}
-use Rattle.ats_first_examples.specs.Senders.{nowhere, stream, there, with_senders}
+use Rattle.ats_first_examples.specs.Rules.{clocked, paced}
+use Rattle.ats_first_examples.specs.Senders.{EntriesAreFirst, EntriesAreTold, FlowsAreFirst, RatesAreFirst}
+use Rattle.ats_first_examples.specs.Senders.{RoutesAreJudged, SendersAreFirst, StreamsAreFirst, along, at_number}
+use Rattle.ats_first_examples.specs.Senders.{at_rate, between, comes, file_with, first, flow, nowhere, stream, there}
+use Rattle.ats_first_examples.specs.Senders.{with_senders}
 use Rattle.ats_first_examples.proofs.Routes.{no_path, no_port, not_joined}
 
 -- Routes by a test of their ports, and the senders of a file one after another.
@@ -158,6 +165,46 @@ flows_are_first = record {
   name = flow_fails (flow (codes "a") there 64) [] (fault.SenderTwice Flow 1) named_twice;
 }
 
+-- over the bridge with the slow clock
+abbrev slow : DeclaredTopology
+slow = clocked 1000 10000000
+
+abbrev one_slow : DeclaredNetwork
+one_slow = long_network slow (paced (0 ∷ 2 ∷ []) 1 672 ∷ []) []
+
+-- a stream by these ports
+slow_is : (table : SenderTable) (route : file.DeclaredRoute) (rate : ℕ) (path : List ℕ)
+    (due : Result DeclaredNetwork NetFault) → ports_of_each slow (route ∷ []) ≡ Some (path ∷ [])
+    → may_declare Three slow (path ∷ []) ≡ true → IsValidPath slow path
+    → (stream_made slow 64 (at_number table) (at_rate (stream (codes "w") route 1 None) rate)
+    (stream_over (one_leg path) (at_rate (stream (codes "w") route 1 None) rate))
+    >>= λ made. unless (refusal_of (at_number table)) (stream_push_fault one_slow made) (with_stream one_slow made))
+    ≡ due → comes table (codes "w") route rate ≡ due
+slow_is table route rate path due ports may valid is =
+    stream_is Three one_slow (at_number table) (at_rate (stream (codes "w") route 1 None) rate) (one_leg path) due
+    (legs_is Three slow (at_number table) (route ∷ []) path ports may valid) is
+
+rates_are_first : RatesAreFirst
+rates_are_first = record {
+  path = refl;
+  own = slow_is Stream there 100000000001 (0 ∷ 2 ∷ []) (Err (fault.Sender Stream 5 rule.BadRate)) refl refl over refl;
+  over = slow_is Stream there 99800199801 (0 ∷ 2 ∷ []) (Err (fault.Sender Stream 5 rule.Limit)) refl refl over refl;
+  most = slow_is Stream there 99800199800 (0 ∷ 2 ∷ []) (Err (fault.SenderTwice Stream 5)) refl refl over refl;
+  from_bridge = slow_is LinkLocal behind 99900099901 (2 ∷ []) (Err (fault.Sender LinkLocal 5 rule.Limit)) refl refl
+      from refl;
+  from_bridge_most = slow_is LinkLocal behind 99900099900 (2 ∷ []) (Err (fault.SenderTwice LinkLocal 5)) refl refl
+      from refl;
+}
+  where
+    behind : file.DeclaredRoute
+    behind = along (codes "b1" ∷ codes "s2" ∷ [])
+
+    over : IsValidPath slow (0 ∷ 2 ∷ [])
+    over = valid_from_by slow 0 (0 ∷ 2 ∷ []) refl
+
+    from : IsValidPath slow (2 ∷ [])
+    from = valid_from_by slow 2 (2 ∷ []) refl
+
 entries_are_first : EntriesAreFirst
 entries_are_first = record {
   links = refl;
@@ -185,6 +232,7 @@ senders_are_first = record {
   routes = routes_are_judged;
   streams = streams_are_first;
   flows = flows_are_first;
+  rates = rates_are_first;
   entries = entries_are_first;
   told = entries_are_told;
 }

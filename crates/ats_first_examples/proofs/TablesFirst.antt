@@ -1,5 +1,6 @@
 use Rattle.std.proofs.Common.{refl}
-use Rattle.ats_first_examples.specs.Tables.{BridgeTablesAreJudged, FlowTablesAreJudged, LinkTablesAreJudged}
+use Rattle.ats_first_examples.specs.Tables.{BridgeTablesAreJudged, ClockedTablesAreJudged, FlowTablesAreJudged}
+use Rattle.ats_first_examples.specs.Tables.{LinkTablesAreJudged}
 use Rattle.ats_first_examples.specs.Tables.{RoutesAreWrong, StreamKeysAreMissing, StreamKindsAreWrong, TablesAreFirst}
 
 -- Tables by computation.
@@ -82,6 +83,23 @@ bridge_tables_are_judged = record {
   residence_there = refl;
 }
 
+clocked_tables_are_judged : ClockedTablesAreJudged
+clocked_tables_are_judged = record {
+  no_residence = refl;
+  unknown = refl;
+  residence = refl;
+  deviation = refl;
+  step = refl;
+  none = refl;
+  deviation_alone = refl;
+  step_alone = refl;
+  both = refl;
+  greatest = refl;
+  too_great = refl;
+  of_format_two = refl;
+  step_of_format_two = refl;
+}
+
 flow_tables_are_judged : FlowTablesAreJudged
 flow_tables_are_judged = record {
   no_name = refl;
@@ -103,5 +121,6 @@ tables_are_first = record {
   routes = routes_are_wrong;
   links = link_tables_are_judged;
   bridges = bridge_tables_are_judged;
+  clocked = clocked_tables_are_judged;
   flows = flow_tables_are_judged;
 }

@@ -225,7 +225,14 @@ abbrev pub pair_with : List file.DeclaredStream → List file.DeclaredLinkLocal 
 pair_with streams link_locals flows link_local_flows = record {
   format = Three;
   stations = record { name = codes "s1" } ∷ [];
-  bridges = record { name = codes "b1"; processing_min_ns = 1; processing_max_ns = 1; residence_ns = 1 } ∷ [];
+  bridges = record {
+    name = codes "b1";
+    processing_min_ns = 1;
+    processing_max_ns = 1;
+    residence_ns = 1;
+    clock_ppm = 0;
+    clock_step_ps = 0;
+  } ∷ [];
   links = record { a = codes "s1"; b = codes "b1"; mbps = 1000; propagation_ns = 500 } ∷ [];
   streams = streams;
   link_locals = link_locals;

@@ -1,5 +1,6 @@
 use Rattle.std.specs.Prelude.{◌≡◌, ℕ, List, [], ◌∷◌, codes, replicate, Option, Some, None}
-use Rattle.ats_topology.specs.Topology.{topology_of}
+use Rattle.ats_topology.specs.Topology.{DeclaredTopology, topology_of}
+use Rattle.ats_topology.specs.declared.node.Kind.TheVariants.{Bridge}
 use Rattle.ats_streams.specs.Fault.{rules_fault}
 use Rattle.ats_streams.specs.Flow.{DeclaredFlow, declared_flow, flow_fault}
 use Rattle.ats_streams.specs.Stream.{DeclaredStream, declared_stream, stream_fault}
@@ -9,6 +10,7 @@ use Rattle.ats_network.specs.Pushes.{flow_push_fault, stream_push_fault}
 use Rattle.ats_network.specs.declared.fault.PushFault.TheVariants as push
 use Rattle.ats_requests.specs.Admission.{entry_fault}
 use Rattle.ats_requests.specs.declared.denied.Denied.TheVariants as denied
+use Rattle.ats_first_examples.specs.Topologies.{sound_links, station}
 
 -- Streams and flows that break several rules at once, and which of them is named.
 
@@ -77,6 +79,39 @@ pub record FlowsComeIn : Type 0 where
   pub over : flow_push_fault (crowded 4096 4096) (flow_named (codes "x")) ≡ Some push.Limit
   pub last : flow_push_fault (crowded 4096 4095) (flow_named (codes "x")) ≡ None
 
+-- from one station over a bridge to the other, where the bridge's clock has this deviation and this step
+abbrev pub clocked : ℕ → ℕ → DeclaredTopology
+clocked deviation step =
+    topology_of (station (codes "s1") ∷ station (codes "s2")
+    ∷ record { name = codes "b1"; kind = Bridge 1 1 1 deviation step } ∷ []) sound_links
+
+-- with no stream over it
+abbrev pub free_of : ℕ → ℕ → DeclaredNetwork
+free_of deviation step = declared_network (clocked deviation step) [] []
+
+-- a stream over these ports, with this rate and burst
+abbrev pub paced : List ℕ → ℕ → ℕ → DeclaredStream
+paced ports rate burst = declared_stream (codes "w") ports (1 ∷ []) rate burst 64 64 1 None
+
+-- a clock that deviates by 1000 parts in a million, with a step of 10 microseconds: of 99,800,199,800 bits per second
+-- its scheduler has 99,900,099,900, and lets through 100,000,000,000 in true time; of one bit per second it has two,
+-- and the burst grows by a bit for the scheduler and by one more behind it. Where a stream ends at the bridge, its
+-- scheduler there is judged; where the clock is ideal, nothing grows; and the name is told first. Of a stream that a
+-- network file declares this is judged before its name
+pub record RatesComeIn : Type 0 where
+  pub most : stream_push_fault (free_of 1000 10000000) (paced (0 ∷ 2 ∷ []) 99800199800 672) ≡ None
+  pub over : stream_push_fault (free_of 1000 10000000) (paced (0 ∷ 2 ∷ []) 99800199801 672) ≡ Some push.Limit
+  pub burst_most : stream_push_fault (free_of 1000 10000000) (paced (0 ∷ 2 ∷ []) 1 999999998) ≡ None
+  pub burst_over : stream_push_fault (free_of 1000 10000000) (paced (0 ∷ 2 ∷ []) 1 999999999) ≡ Some push.Limit
+  pub ends_most : stream_push_fault (free_of 1000 10000000) (paced (0 ∷ []) 99900000000 672) ≡ None
+  pub ends_over : stream_push_fault (free_of 1000 10000000) (paced (0 ∷ []) 99900000001 672) ≡ Some push.Limit
+  pub ideal : stream_push_fault (free_of 0 0) (paced (0 ∷ 2 ∷ []) 100000000000 1000000000) ≡ None
+  pub taken : stream_push_fault
+      (declared_network (clocked 1000 10000000) (paced (0 ∷ 2 ∷ []) 1 672 ∷ []) [])
+      (paced (0 ∷ 2 ∷ []) 99800199801 672) ≡ Some push.NameTaken
+  pub asked_most : entry_fault (free_of 1000 10000000) (paced (0 ∷ 2 ∷ []) 99800199800 672) ≡ None
+  pub asked : entry_fault (free_of 1000 10000000) (paced (0 ∷ 2 ∷ []) 99800199801 672) ≡ Some denied.Limit
+
 -- and of a stream that is to be admitted
 pub record EntriesAreJudged : Type 0 where
   pub both : entry_fault (crowded 4096 4096) (named (codes "w") None) ≡ Some denied.NameTaken
@@ -89,4 +124,5 @@ pub record RulesAreFirst : Type 0 where
   pub flows : FlowRulesAreFirst
   pub streams_come : StreamsComeIn
   pub flows_come : FlowsComeIn
+  pub rates_come : RatesComeIn
   pub entries : EntriesAreJudged

@@ -1,7 +1,7 @@
 use Rattle.std.specs.Prelude.{◌≡◌, ℕ, List, [], ◌∷◌, codes, Option, Some, None, Result, Ok, Err}
 use Rattle.ats_topology.specs.declared.fault.TopologyFault.TheVariants.{SelfLink}
 use Rattle.ats_streams.specs.declared.fault.StreamFault.TheVariants as rule
-use Rattle.ats_network.specs.Network.{DeclaredNetwork}
+use Rattle.ats_network.specs.Network.{DeclaredNetwork, long_network}
 use Rattle.ats_network.specs.declared.fault.PushFault.TheVariants as push
 use Rattle.ats_route_tree.specs.Legs.{DeclaredLegs}
 use Rattle.ats_network_table.specs.declared.fault.DocumentFault.TheVariants.{Limit}
@@ -11,13 +11,14 @@ use Rattle.ats_network_table.specs.declared.table.Table.TheVariants as table
 use Rattle.ats_network_toml.specs.Document as file
 use Rattle.ats_network_toml.specs.declared.entries.LinkEntry.{LinkEntry}
 use Rattle.ats_network_file.specs.Reading.{network_in}
-use Rattle.ats_network_file.specs.Senders.{legs_in, refusal_of}
+use Rattle.ats_network_file.specs.Senders.{legs_in, refusal_of, stream_added}
 use Rattle.ats_network_file.specs.declared.fault.NetFault.{NetFault}
 use Rattle.ats_network_file.specs.declared.fault.NetFault.TheVariants as fault
 use Rattle.ats_network_file.specs.declared.senders.Place.{Place}
 use Rattle.ats_network_file.specs.declared.senders.SenderTable.{SenderTable}
 use Rattle.ats_network_file.specs.declared.senders.SenderTable.TheVariants.{Flow, LinkLocal, LinkLocalFlow, Stream}
 use Rattle.ats_text_examples.specs.Worked.{way}
+use Rattle.ats_first_examples.specs.Rules.{clocked, paced}
 
 -- Streams and flows of a network file with several faults at once, and which of them is named.
 
@@ -100,7 +101,14 @@ file_with links streams flows = record {
   format = Two;
   stations = record { name = codes "s1" } ∷ record { name = codes "s2" } ∷ [];
   bridges =
-      record { name = codes "b1"; processing_min_ns = 1; processing_max_ns = 1; residence_ns = 1 } ∷ [];
+      record {
+        name = codes "b1";
+        processing_min_ns = 1;
+        processing_max_ns = 1;
+        residence_ns = 1;
+        clock_ppm = 0;
+        clock_step_ps = 0;
+      } ∷ [];
   links = linked (codes "s1") (codes "b1") ∷ linked (codes "b1") (codes "s2") ∷ links;
   streams = streams;
   link_locals = [];
@@ -137,6 +145,29 @@ pub record FlowsAreFirst : Type 0 where
   pub size : with_senders [] (flow (codes "a") there 63 ∷ []) ≡ Err (fault.Sender Flow 1 rule.BadSizes)
   pub name : with_senders [] (flow (codes "a") there 64 ∷ []) ≡ Err (fault.SenderTwice Flow 1)
 
+-- the stream's table with this rate
+abbrev pub at_rate : file.DeclaredStream → ℕ → file.DeclaredStream
+at_rate entry rate = record entry { rate_bps = rate }
+
+-- what a stream by this name, route and rate comes to, the fifth of its array in a file of format 3, over a bridge with
+-- a slow clock, where a stream has the name w
+abbrev pub comes : SenderTable → List ℕ → file.DeclaredRoute → ℕ → Result DeclaredNetwork NetFault
+comes table name route rate =
+    stream_added Three (long_network (clocked 1000 10000000) (paced (0 ∷ 2 ∷ []) 1 672 ∷ []) []) (at_number table)
+    (at_rate (stream name route 1 None) rate)
+
+-- its path comes first, then the rules that go by its numbers alone, then its rate by the clocks on its way, then its
+-- name; and so of a stream that begins at the bridge
+pub record RatesAreFirst : Type 0 where
+  pub path : comes Stream (codes "w") nowhere 99800199801 ≡ Err (fault.BadPath Stream 5)
+  pub own : comes Stream (codes "w") there 100000000001 ≡ Err (fault.Sender Stream 5 rule.BadRate)
+  pub over : comes Stream (codes "w") there 99800199801 ≡ Err (fault.Sender Stream 5 rule.Limit)
+  pub most : comes Stream (codes "w") there 99800199800 ≡ Err (fault.SenderTwice Stream 5)
+  pub from_bridge : comes LinkLocal (codes "w") (along (codes "b1" ∷ codes "s2" ∷ [])) 99900099901
+      ≡ Err (fault.Sender LinkLocal 5 rule.Limit)
+  pub from_bridge_most : comes LinkLocal (codes "w") (along (codes "b1" ∷ codes "s2" ∷ [])) 99900099900
+      ≡ Err (fault.SenderTwice LinkLocal 5)
+
 -- nodes and links come before streams, streams before flows, and in each array an earlier entry before a later one,
 -- whichever their faults are
 pub record EntriesAreFirst : Type 0 where
@@ -164,5 +195,6 @@ pub record SendersAreFirst : Type 0 where
   pub routes : RoutesAreJudged
   pub streams : StreamsAreFirst
   pub flows : FlowsAreFirst
+  pub rates : RatesAreFirst
   pub entries : EntriesAreFirst
   pub told : EntriesAreTold

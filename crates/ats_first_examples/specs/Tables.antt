@@ -1,9 +1,9 @@
-use Rattle.std.specs.Prelude.{◌≡◌, ℕ, List, [], ◌∷◌, ◌++◌, take, drop, codes, pos, Result, Err}
+use Rattle.std.specs.Prelude.{◌≡◌, ℕ, List, [], ◌∷◌, ◌++◌, take, drop, codes, pos, Result, Ok, Err}
 use Rattle.toml.specs.Data.{Data, Members, string, integer, array, no_items, item, no_members, member}
 use Rattle.ats_network_table.specs.Walk.{Entry}
 use Rattle.ats_network_table.specs.Words.{key_text}
 use Rattle.ats_network_table.specs.declared.format.Format.{Format}
-use Rattle.ats_network_table.specs.declared.format.Format.TheVariants.{One, Two}
+use Rattle.ats_network_table.specs.declared.format.Format.TheVariants.{One, Three, Two}
 use Rattle.ats_network_table.specs.declared.fault.DocumentFault.{DocumentFault}
 use Rattle.ats_network_table.specs.declared.fault.DocumentFault.TheVariants.{Missing, Unknown, WrongKind}
 use Rattle.ats_network_table.specs.declared.key.Key.{Key}
@@ -204,6 +204,51 @@ pub record BridgeTablesAreJudged : Type 0 where
   pub time : bridge_of One (plain_with 1) ≡ Err (WrongKind table.Bridge 3 key.ProcessingNs)
   pub residence_there : bridge_of One (plain_with 2) ≡ Err (WrongKind table.Bridge 3 key.ResidenceNs)
 
+-- and of those that have a clock in format 3, where either of its numbers may be left out
+abbrev pub clocked_wrong : Values
+clocked_wrong = bridge_wrong ++ ((key.ClockPpm, a_name) ∷ (key.ClockStepPs, a_name) ∷ [])
+
+abbrev pub bridge_right : Values
+bridge_right = (key.Name, a_name) ∷ (key.ProcessingMinNs, integer (pos 1)) ∷ (key.ProcessingMaxNs, integer (pos 2))
+    ∷ (key.ResidenceNs, integer (pos 3)) ∷ []
+
+abbrev pub clocked_with : ℕ → Members
+clocked_with k = members_of (take k (bridge_right ++ ((key.ClockPpm, a_number) ∷ [])) ++ drop k clocked_wrong)
+
+-- what is declared of a bridge with these numbers of its clock
+abbrev pub clocked : ℕ → ℕ → Result BridgeEntry DocumentFault
+clocked deviation step = Ok (record {
+  name = codes "n";
+  processing_min_ns = 1;
+  processing_max_ns = 2;
+  residence_ns = 3;
+  clock_ppm = deviation;
+  clock_step_ps = step;
+})
+
+pub record ClockedTablesAreJudged : Type 0 where
+  pub no_residence : bridge_of Three (with_unknown (take 3 clocked_wrong))
+      ≡ Err (Missing table.Bridge 3 key.ResidenceNs)
+  pub unknown : bridge_of Three (with_unknown clocked_wrong) ≡ Err (Unknown table.Bridge 3)
+  pub residence : bridge_of Three (clocked_with 3) ≡ Err (WrongKind table.Bridge 3 key.ResidenceNs)
+  pub deviation : bridge_of Three (clocked_with 4) ≡ Err (WrongKind table.Bridge 3 key.ClockPpm)
+  pub step : bridge_of Three (clocked_with 5) ≡ Err (WrongKind table.Bridge 3 key.ClockStepPs)
+  pub none : bridge_of Three (members_of bridge_right) ≡ clocked 0 0
+  pub deviation_alone : bridge_of Three (members_of ((key.ClockPpm, integer (pos 4)) ∷ bridge_right)) ≡ clocked 4 0
+  pub step_alone : bridge_of Three (members_of ((key.ClockStepPs, integer (pos 5)) ∷ bridge_right)) ≡ clocked 0 5
+  pub both : bridge_of Three
+      (members_of ((key.ClockPpm, integer (pos 4)) ∷ (key.ClockStepPs, integer (pos 5)) ∷ bridge_right))
+      ≡ clocked 4 5
+  pub greatest : bridge_of Three
+      (members_of ((key.ClockPpm, integer (pos 4294967295)) ∷ (key.ClockStepPs, integer (pos 4294967295))
+      ∷ bridge_right)) ≡ clocked 4294967295 4294967295
+  pub too_great : bridge_of Three (members_of ((key.ClockStepPs, integer (pos 4294967296)) ∷ bridge_right))
+      ≡ Err (WrongKind table.Bridge 3 key.ClockStepPs)
+  pub of_format_two : bridge_of Two (members_of ((key.ClockPpm, a_number) ∷ bridge_right))
+      ≡ Err (Unknown table.Bridge 3)
+  pub step_of_format_two : bridge_of Two (members_of ((key.ClockStepPs, a_number) ∷ bridge_right))
+      ≡ Err (Unknown table.Bridge 3)
+
 -- and of flows
 abbrev pub flow_wrong : Values
 flow_wrong = (key.Name, a_number) ∷ (key.Path, a_number) ∷ (key.MaxOctets, a_name) ∷ []
@@ -231,4 +276,5 @@ pub record TablesAreFirst : Type 0 where
   pub routes : RoutesAreWrong
   pub links : LinkTablesAreJudged
   pub bridges : BridgeTablesAreJudged
+  pub clocked : ClockedTablesAreJudged
   pub flows : FlowTablesAreJudged

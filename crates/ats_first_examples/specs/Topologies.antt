@@ -14,7 +14,7 @@ station name = record { name = name; kind = Station }
 
 -- a bridge with these least and greatest processing times and this residence
 abbrev pub bridge : List ℕ → ℕ → ℕ → ℕ → Node
-bridge name least most residence = record { name = name; kind = Bridge least most residence }
+bridge name least most residence = record { name = name; kind = Bridge least most residence 0 0 }
 
 -- a link of 1000 Mb/s
 abbrev pub link : List ℕ → List ℕ → Link

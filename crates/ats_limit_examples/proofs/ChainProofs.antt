@@ -70,12 +70,12 @@ flow_is format network entry path due found comes =
 
 stream_is : (format : Format) (network : DeclaredNetwork) (entry : file.DeclaredStream) (legs : DeclaredLegs)
     (due : Result DeclaredNetwork NetFault) → legs_in format network.topology first_stream entry.routes ≡ Ok legs
-    → (stream_made network.most_ports first_stream entry (stream_over legs entry)
+    → (stream_made network.topology network.most_ports first_stream entry (stream_over legs entry)
     >>= λ made. unless (refusal_of first_stream) (stream_push_fault network made) (with_stream network made)) ≡ due
     → stream_added format network first_stream entry ≡ due
 stream_is format network entry legs due found comes =
     ap (λ (r : Result DeclaredLegs NetFault). r
-    >>= λ found. stream_made network.most_ports first_stream entry (stream_over found entry)
+    >>= λ found. stream_made network.topology network.most_ports first_stream entry (stream_over found entry)
     >>= λ made. unless (refusal_of first_stream) (stream_push_fault network made) (with_stream network made)) found
     ∙ comes
 

@@ -273,6 +273,7 @@ rules_may = record {
       ats_is_regulator.rule.fewer d frames others kept.0 ascends no_more,
       all_late frames (omega (arith, no_more early, none_early others kept.1)),
     );
+    wider = λ d e frames less kept. (ats_is_regulator.rule.wider d e frames less kept.0, kept.1);
     conforms = λ d frames ruled sized kept. kept.0;
   };
   kept = (

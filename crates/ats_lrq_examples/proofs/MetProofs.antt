@@ -7,14 +7,15 @@ use Rattle.ats_network.specs.Senders.{sender_at}
 use Rattle.ats_bucket.specs.Conforming.{Frame}
 use Rattle.ats_certificate.specs.Certificate.{Holds}
 use Rattle.ats_certificate.specs.declared.row.Row.{Row}
-use Rattle.ats_trace.specs.Eligibility.{IsJudged, declared_by, residence_of_groups}
+use Rattle.ats_trace.specs.Eligibility.{IsJudged, declared_by}
 use Rattle.ats_trace.specs.Projections.{handed_by}
-use Rattle.ats_trace.specs.Run.{IsLegal, IsLegalBy, releases_of}
+use Rattle.ats_trace.specs.Run.{IsIdeal, IsLegalBy, releases_of}
 use Rattle.ats_trace.specs.Stored.{travel_at}
 use Rattle.ats_trace.specs.Talker.{IsDeclaredSize, KeepsBuckets, KeepsBucketsBy, frames_of, talker_of}
 use Rattle.ats_trace.specs.declared.journey.Release.{Release}
+use Rattle.ats_soundness_law.specs.Runs.{in_true_time}
 use Rattle.ats_soundness_law.specs.Sound.{IsServed, IsSoundBy}
-use Rattle.ats_group.specs.Judge.{ats_judge, bucket_rule}
+use Rattle.ats_group.specs.Judge.{bucket_rule}
 use Rattle.ats_lrq.specs.Judge.{lrq_judge, spacing_rule}
 use Rattle.ats_lrq.specs.Narrow.{narrowed}
 use Rattle.ats_lrq_law.proofs.Narrowed.{narrowed_is_sound}
@@ -26,27 +27,23 @@ use Rattle.ats_examples.proofs.LawsMetProofs.{laws_are_met}
 use Rattle.ats_examples.proofs.LegalProofs.{any_lawful}
 use Rattle.ats_examples.proofs.NetworkProofs.{bursts_is}
 use Rattle.ats_examples.proofs.Tests.{all_by, le_of}
-use Rattle.ats_examples.proofs.StationTest.{from_stations}
+use Rattle.ats_examples.proofs.StationTest.{from_stations, from_stations_by, legal_of}
 use Rattle.ats_lrq_examples.specs.Runs.{spaced, too_soon, two_of_flow}
 use Rattle.ats_lrq_examples.specs.Met.{FlowsAreFree, LawIsMet, RegulatorCounts, SpacingCounts, second_of}
-use Rattle.ats_lrq_examples.proofs.LegalByLrq.{legal_with, residence_is, two_judged}
+use Rattle.ats_lrq_examples.proofs.LegalByLrq.{legal_with, port_is, two_judged}
 
 spaced_groups : (port class : ℕ) → port < length line_of_bursts.topology.ports → 1 ≤ class
-    → IsJudged lrq_judge line_of_bursts (residence_of_groups line_of_bursts port)
-    (handed_by line_of_bursts spaced port class)
+    → IsJudged lrq_judge line_of_bursts port (handed_by line_of_bursts spaced port class)
 spaced_groups port class within least =
-    two_judged line_of_bursts (residence_of_groups line_of_bursts port) (residence_of_groups line_of_bursts 0) _ _ refl
-    refl (0 == port && 6 == class) (residence_is line_of_bursts port class)
+    two_judged line_of_bursts port 0 _ _ refl refl (0 == port && 6 == class) (port_is port class)
 
 spaced_legal : IsLegalBy lrq_judge line_of_bursts spaced
 spaced_legal = legal_with line_of_bursts spaced refl spaced_groups
 
 soon_groups : (port class : ℕ) → port < length line_of_bursts.topology.ports → 1 ≤ class
-    → IsJudged lrq_judge line_of_bursts (residence_of_groups line_of_bursts port)
-    (handed_by line_of_bursts too_soon port class)
+    → IsJudged lrq_judge line_of_bursts port (handed_by line_of_bursts too_soon port class)
 soon_groups port class within least =
-    two_judged line_of_bursts (residence_of_groups line_of_bursts port) (residence_of_groups line_of_bursts 0) _ _ refl
-    refl (0 == port && 6 == class) (residence_is line_of_bursts port class)
+    two_judged line_of_bursts port 0 _ _ refl refl (0 == port && 6 == class) (port_is port class)
 
 soon_legal : IsLegalBy lrq_judge line_of_bursts too_soon
 soon_legal = legal_with line_of_bursts too_soon refl soon_groups
@@ -98,7 +95,7 @@ spaced_keeps = record {
 holds : Holds (narrowed line_of_bursts) line_rows
 holds = laws_are_met.holds
 
-sound : IsSoundBy lrq_judge spacing_rule line_of_bursts line_rows
+sound : IsSoundBy (in_true_time lrq_judge spacing_rule) line_of_bursts line_rows
 sound = narrowed_is_sound line_of_bursts line_rows bursts_is holds
 
 pub law_is_met : LawIsMet
@@ -111,7 +108,7 @@ law_is_met = record {
   among = (1, lit< tt, refl);
   of_stream = lit< tt;
   keeps = spaced_keeps;
-  served = (from_stations spacing_rule lrq_judge line_of_bursts line_rows refl sound).served spaced spaced_legal
+  served = (from_stations_by spacing_rule lrq_judge line_of_bursts line_rows refl sound).served spaced spaced_legal
       (second_of spaced) (1, lit< tt, refl) (lit< tt) spaced_keeps;
   sum = refl;
   whole = refl;
@@ -137,7 +134,7 @@ spacing_counts = record {
   not_spaced = soon_not_spaced;
   not_served = soon_not_served;
   unsound = λ all. soon_not_served
-      ((from_stations bucket_rule lrq_judge line_of_bursts line_rows refl all).served too_soon soon_legal
+      ((from_stations_by bucket_rule lrq_judge line_of_bursts line_rows refl all).served too_soon soon_legal
       (second_of too_soon) (1, lit< tt, refl) (lit< tt) soon_keeps);
 }
 
@@ -150,7 +147,7 @@ not_held all =
     let same : ◌≡◌ {A = ℕ} 12336 24672 = (all.each 0 no_row (lit< tt)).covers.sums.bursts in
     absurd (omega arith)
 
-legal_at_once : IsLegal line_of_bursts out_of_order
+legal_at_once : IsIdeal line_of_bursts out_of_order
 legal_at_once = any_lawful.overtaken.legal
 
 at_once_keeps : KeepsBuckets line_of_bursts (releases_of out_of_order) (talker_of line_of_bursts 0)
@@ -168,6 +165,7 @@ regulator_counts = record {
   keeps = at_once_keeps;
   not_served = at_once_not_served;
   unsound = λ all. at_once_not_served
-      ((from_stations bucket_rule ats_judge line_of_bursts line_rows refl all).served out_of_order legal_at_once
+      ((from_stations line_of_bursts line_rows refl all).served out_of_order
+      (legal_of line_of_bursts out_of_order bursts_is legal_at_once)
       (travel_at out_of_order 0) (0, lit< tt, refl) (lit< tt) at_once_keeps);
 }

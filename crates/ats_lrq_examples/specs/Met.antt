@@ -4,10 +4,11 @@ use Rattle.ats_network.specs.Senders.{sender_at}
 use Rattle.ats_certificate.specs.Certificate.{Holds}
 use Rattle.ats_group.specs.Judge.{bucket_rule}
 use Rattle.ats_trace.specs.Journey.{Travel, IsOfStream}
-use Rattle.ats_trace.specs.Run.{IsLegal, IsLegalBy, releases_of}
+use Rattle.ats_trace.specs.Run.{IsIdeal, IsLegalBy, releases_of}
 use Rattle.ats_trace.specs.Stored.{travel_at}
 use Rattle.ats_trace.specs.Talker.{talker_of, KeepsBuckets, KeepsBucketsBy}
 use Rattle.ats_trace.specs.declared.journey.Ending.TheVariants.{Sink}
+use Rattle.ats_soundness_law.specs.Runs.{in_true_time}
 use Rattle.ats_soundness_law.specs.Sound.{IsServed, IsSound, IsSoundBy}
 use Rattle.ats_lrq.specs.Judge.{lrq_judge, spacing_rule}
 use Rattle.ats_lrq.specs.Narrow.{narrowed}
@@ -29,7 +30,7 @@ pub record LawIsMet : Type 0 where
   pub network : IsNetwork line_of_bursts
   pub narrow : narrowed line_of_bursts ≡ line
   pub holds : Holds (narrowed line_of_bursts) line_rows
-  pub sound : IsSoundBy lrq_judge spacing_rule line_of_bursts line_rows
+  pub sound : IsSoundBy (in_true_time lrq_judge spacing_rule) line_of_bursts line_rows
   pub legal : IsLegalBy lrq_judge line_of_bursts spaced
   pub among : Contains spaced (second_of spaced)
   pub of_stream : IsOfStream line_of_bursts (second_of spaced)
@@ -46,13 +47,13 @@ pub record SpacingCounts : Type 0 where
   pub not_spaced :
       ¬ KeepsBucketsBy spacing_rule line_of_bursts (releases_of too_soon) (talker_of line_of_bursts 0)
   pub not_served : ¬ IsServed line_rows (sender_at line_of_bursts 0) (second_of too_soon)
-  pub unsound : ¬ IsSoundBy lrq_judge bucket_rule line_of_bursts line_rows
+  pub unsound : ¬ IsSoundBy (in_true_time lrq_judge bucket_rule) line_of_bursts line_rows
 
 -- for the network as it is declared the certificate does not hold. Behind its schedulers two frames at once, which are
 -- its burst, are legal, and the first of them waits for the other beyond its bound; so the bounds are not sound there
 pub record RegulatorCounts : Type 0 where
   pub not_held : ¬ Holds line_of_bursts line_rows
-  pub legal : IsLegal line_of_bursts out_of_order
+  pub legal : IsIdeal line_of_bursts out_of_order
   pub keeps : KeepsBuckets line_of_bursts (releases_of out_of_order) (talker_of line_of_bursts 0)
   pub not_served : ¬ IsServed line_rows (sender_at line_of_bursts 0) (travel_at out_of_order 0)
   pub unsound : ¬ IsSound line_of_bursts line_rows

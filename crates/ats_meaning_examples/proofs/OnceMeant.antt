@@ -1,5 +1,4 @@
 use Rattle.std.proofs.Common.{◌≡◌, ℕ, ◌≤◌, [], ◌∷◌, arith, lit<}
-use Rattle.ats_group.specs.Judge.{ats_judge}
 use Rattle.ats_trace.specs.OneVerdict.{SendsOnce}
 use Rattle.ats_trace.proofs.OneVerdict.{one_verdict}
 use Rattle.ats_replay.specs.Laws.{CountsEachOnce}
@@ -40,7 +39,7 @@ not_together counts = let e : ◌≡◌ {A = ℕ} 0 1 = counts.together in absur
 pub once_is_meant : OnceIsMeant
 once_is_meant = record {
   sending = record {
-    once = (one_verdict ats_judge line one_frame line_is examples_legal.one_frame).sent;
+    once = (one_verdict line one_frame line_is examples_legal.one_frame.journeys).sent;
     twice_by_bridge = not_by_bridge;
     twice_by_station = not_by_station;
   };

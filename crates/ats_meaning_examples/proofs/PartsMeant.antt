@@ -44,7 +44,7 @@ find_first {X} test (y ∷ ys) after x kept passes =
 name_is : (network : DeclaredNetwork) (port class : ℕ) (name : List ℕ) → SendsLongest network port class name
     → lower_name network port class ≡ Some name
 name_is network port class name longest =
-    let test : Sender → Bool = sends_lower port class (port_sums network port class).lower in
+    let test : Sender → Bool = sends_lower network.topology port class (port_sums network port class).lower in
     let first : IsFirstBreach (λ (s : Sender). test s ≡ false) (senders_of network) longest.sender = longest.first in
     let found : find test (first.before ++ longest.sender ∷ first.after) ≡ Some longest.sender =
     find_first test first.before first.after longest.sender first.kept
@@ -137,7 +137,8 @@ parts_are_exact each_stream_adds_up = record {
 }
 
 -- the senders in front of the flow whose name it is
-others_fail : All (λ (s : Sender). sends_lower 0 6 12336 s ≡ false) (take 3 (senders_of line_and_flows))
+others_fail : All (λ (s : Sender). sends_lower line_and_flows.topology 0 6 12336 s ≡ false)
+    (take 3 (senders_of line_and_flows))
 others_fail zero d within = refl
 others_fail (suc zero) d within = refl
 others_fail (suc (suc zero)) d within = refl

@@ -1,7 +1,7 @@
 use Rattle.std.specs.Prelude.{◌≡◌, ℕ, ◌+◌, List, Contains}
 use Rattle.ats_network.specs.Network.{DeclaredNetwork}
 use Rattle.ats_trace.specs.Journey.{Travel}
-use Rattle.ats_trace.specs.Run.{IsLegal, releases_of}
+use Rattle.ats_trace.specs.Run.{IsIdeal, releases_of}
 use Rattle.ats_trace.specs.Stored.{leg_in}
 use Rattle.ats_trace.specs.Talker.{KeepsBuckets}
 use Rattle.ats_trace.specs.declared.journey.Ending.TheVariants.{Sink}
@@ -10,11 +10,11 @@ use Rattle.ats_examples.specs.Networks.{line}
 
 -- What it comes to that a delay can happen, in the words of runs alone.
 
--- a run is legal, and every node keeps its buckets in it; this frame of the stream is in it, and arrives at the
--- listener so long after its release
+-- a run goes by true time, and every node keeps its buckets in it; this frame of the stream is in it, and arrives at
+-- the listener so long after its release
 pub record IsShownBy (network : DeclaredNetwork) (stream listener delay : ℕ) (run : List Travel) (journey : Travel)
     : Type 0 where
-  pub legal : IsLegal network run
+  pub legal : IsIdeal network run
   pub keeps : (station : ℕ) → KeepsBuckets network (releases_of run) station
   pub there : Contains run journey
   pub sent : journey.release.sender ≡ stream

@@ -39,8 +39,8 @@ pub fn reading_is_meant()
     ensures { ReadingIsMeant }
 {}
 
-/// That a delay can happen says that a legal run shows it, in which every node keeps its buckets, by a frame of the
-/// stream that takes so long to the listener; and each such run shows one, whichever releases it has.
+/// That a delay can happen says that a run by true time shows it, in which every node keeps its buckets, by a frame of
+/// the stream that takes so long to the listener; and each such run shows one, whichever releases it has.
 pub fn happening_is_meant()
     ensures { HappeningIsMeant }
 {}

@@ -20,7 +20,7 @@ not_overtaking keeps =
     let ahead : IsAhead (get_or (sent_by two_flows (last_goes_second 2 1) 0) 2 no_transmission)
     (get_or (sent_by two_flows (last_goes_second 2 1) 0) 1 no_transmission)
     = keeps 0 (lit< tt) 2 no_transmission (lit< tt) 1 no_transmission (lit< tt) (lit< tt) (lit≤ tt) in
-    let earlier : 2 ≤ 1 = ahead.eligible refl in
+    let earlier : 2 ≤ 1 = ahead.no_later refl in
     absurd (omega arith)
 
 not_overtaken : (keeps : Keeps chosen two_flows (last_goes_second 1 2)) → ⊥
@@ -28,7 +28,7 @@ not_overtaken keeps =
     let ahead : IsAhead (get_or (sent_by two_flows (last_goes_second 1 2) 0) 2 no_transmission)
     (get_or (sent_by two_flows (last_goes_second 1 2) 0) 1 no_transmission)
     = keeps 0 (lit< tt) 2 no_transmission (lit< tt) 1 no_transmission (lit< tt) (lit< tt) (lit≤ tt) in
-    let earlier : 2 ≤ 1 = ahead.eligible refl in
+    let earlier : 2 ≤ 1 = ahead.no_later refl in
     absurd (omega arith)
 
 -- frame 1 starts first, so its key would have to be the lesser
@@ -67,7 +67,7 @@ not_second_overtakes keeps =
     let ahead : IsAhead (get_or (sent_by fork_of_flows (two_come 12336001 26844000 26172000) 2) 2 no_transmission)
     (get_or (sent_by fork_of_flows (two_come 12336001 26844000 26172000) 2) 1 no_transmission)
     = keeps 2 (lit< tt) 2 no_transmission (lit< tt) 1 no_transmission (lit< tt) (lit< tt) (lit≤ tt) in
-    let earlier : 14508001 ≤ 14508000 = ahead.eligible refl in
+    let earlier : 14508001 ≤ 14508000 = ahead.no_later refl in
     absurd (omega arith)
 
 not_first_overtakes : (keeps : Keeps chosen fork_of_flows (two_come 12335999 26172000 26844000)) → ⊥
@@ -75,7 +75,7 @@ not_first_overtakes keeps =
     let ahead : IsAhead (get_or (sent_by fork_of_flows (two_come 12335999 26172000 26844000) 2) 1 no_transmission)
     (get_or (sent_by fork_of_flows (two_come 12335999 26172000 26844000) 2) 2 no_transmission)
     = keeps 2 (lit< tt) 1 no_transmission (lit< tt) 2 no_transmission (lit< tt) (lit< tt) (lit≤ tt) in
-    let earlier : 14508000 ≤ 14507999 = ahead.eligible refl in
+    let earlier : 14508000 ≤ 14507999 = ahead.no_later refl in
     absurd (omega arith)
 
 not_by_frame_there : ¬ IsRunBy frame_key least_wait fork_of_flows (two_come 12336000 26844000 26172000)

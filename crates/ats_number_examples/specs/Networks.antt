@@ -54,5 +54,5 @@ small name class = declared_stream name (0 ∷ 2 ∷ []) (class ∷ class ∷ []
 -- a station before a bridge that takes 0 to 1500 ns to process a frame, over a link without propagation
 abbrev pub at_once : DeclaredTopology
 at_once = topology_of
-    (station (codes "s1") ∷ record { name = codes "b1"; kind = Bridge 0 1500 1000 } ∷ [])
+    (station (codes "s1") ∷ record { name = codes "b1"; kind = Bridge 0 1500 1000 0 0 } ∷ [])
     (record { a = codes "s1"; b = codes "b1"; mbps = 1000; propagation_ns = 0 } ∷ [])

@@ -21,7 +21,7 @@ not_chosen keeps =
     let ahead : IsAhead (get_or (sent_by line_and_flow later_of_flow_first 0) 2 no_transmission)
     (get_or (sent_by line_and_flow later_of_flow_first 0) 1 no_transmission)
     = keeps 0 (lit< tt) 2 no_transmission (lit< tt) 1 no_transmission (lit< tt) (lit< tt) (lit≤ tt) in
-    let earlier : 2 ≤ 1 = ahead.eligible refl in
+    let earlier : 2 ≤ 1 = ahead.no_later refl in
     absurd (omega arith)
 
 not_turned : ¬ IsRunBy frame_key least_wait line_and_flow (together 672000 0)

@@ -5,7 +5,7 @@ use Rattle.ats_trace.specs.Journey.{Travel}
 use Rattle.ats_trace.specs.Links.{KeepsTimes}
 use Rattle.ats_trace.specs.Parts.{chosen, links}
 use Rattle.ats_trace.specs.Projections.{Crossing}
-use Rattle.ats_trace.specs.Run.{IsLegal, IsRunBy}
+use Rattle.ats_trace.specs.Run.{IsIdeal, IsRunBy}
 use Rattle.ats_examples.specs.BrokenRuns.{small}
 use Rattle.ats_examples.specs.Crossings.{crossing}
 use Rattle.ats_examples.specs.Deviations.{BreaksAlone}
@@ -68,8 +68,8 @@ pub record FlowsAreSentInOrder : Type 0 where
 
 -- they arrive in the order in which they were sent, each in its time
 pub record FlowsArriveInOrder : Type 0 where
-  pub behind : IsLegal ranged_flow (second_of_flow 2172001)
-  pub last : IsLegal ranged_flow (second_of_flow 2844000)
+  pub behind : IsIdeal ranged_flow (second_of_flow 2172001)
+  pub last : IsIdeal ranged_flow (second_of_flow 2844000)
   pub together : BreaksAlone links ranged_flow (second_of_flow 2172000)
   pub overtaking : BreaksAlone links ranged_flow overtaking
   pub late : BreaksAlone links ranged_flow late_of_flow
@@ -83,7 +83,7 @@ pub record FlowsArriveInOrder : Type 0 where
 pub record FlowsArriveByPace : Type 0 where
   pub least : IsRunBy frame_key least_wait ranged_flow (arriving 1372000 2044000 2544000)
   pub not_least : ¬ IsRunBy frame_key least_wait ranged_flow (arriving 1372001 2044001 2544001)
-  pub of_other_pace : IsLegal ranged_flow (arriving 1372001 2044001 2544001)
+  pub of_other_pace : IsIdeal ranged_flow (arriving 1372001 2044001 2544001)
 
 pub record FlowsAreKept : Type 0 where
   pub sent : FlowsAreSentInOrder

@@ -1,7 +1,7 @@
 use Rattle.std.specs.Prelude.{ℕ, ◌++◌, List, [], ◌∷◌}
 use Rattle.ats_trace.specs.Journey.{Travel}
 use Rattle.ats_trace.specs.Parts.{chosen}
-use Rattle.ats_trace.specs.Run.{IsLegal, IsRunBy}
+use Rattle.ats_trace.specs.Run.{IsIdeal, IsRunBy}
 use Rattle.ats_examples.specs.BrokenRuns.{small}
 use Rattle.ats_examples.specs.Deviations.{BreaksAlone}
 use Rattle.ats_examples.specs.Networks.{line_and_flow, line_of_bursts, line_of_classes, line_of_two, over_two_ranged}
@@ -17,7 +17,7 @@ pub record OrdersAreEverywhere : Type 0 where
   pub at_station : ¬ IsRunBy frame_key least_wait line_of_bursts out_of_order
   pub of_other_key : IsRunBy descending_key least_wait line_of_bursts out_of_order
   pub between_bridges : ¬ IsRunBy frame_key least_wait over_two_ranged (arriving_next 26072001)
-  pub of_other_pace : IsLegal over_two_ranged (arriving_next 26072001)
+  pub of_other_pace : IsIdeal over_two_ranged (arriving_next 26072001)
   pub in_time : IsRunBy frame_key least_wait over_two_ranged (arriving_next 26072000)
 
 -- behind two frames that make a group wait, two small ones of another stream, eligible together with the second of
@@ -39,8 +39,8 @@ late_then_early =
 -- a legal run keeps no order of these: a bridge may break a tie of one sender's frames otherwise than by their numbers,
 -- and a frame may wait less at its second bridge than at its first
 pub record RunsNeedNoOrder : Type 0 where
-  pub tie : IsLegal (line_of_two 1000000) later_goes_first
-  pub pace : IsLegal over_two_ranged late_then_early
+  pub tie : IsIdeal (line_of_two 1000000) later_goes_first
+  pub pace : IsIdeal over_two_ranged late_then_early
 
 -- two frames of the lower class of a network wait at the station, and one of the higher is released when the first of
 -- them ends; the station sends the second of them, and the other, at these times
@@ -50,9 +50,9 @@ just_released second other = small 1 0 0 ∷ small 1 0 second ∷ small 0 672000
 -- a port that is just through with a frame chooses among those that become eligible at that moment too
 pub record JustEligibleCounts : Type 0 where
   pub behind_flow : BreaksAlone chosen line_and_flow (just_released 672000 1344000)
-  pub before_flow : IsLegal line_and_flow (just_released 1344000 672000)
+  pub before_flow : IsIdeal line_and_flow (just_released 1344000 672000)
   pub behind_class : BreaksAlone chosen line_of_classes (just_released 672000 1344000)
-  pub before_class : IsLegal line_of_classes (just_released 1344000 672000)
+  pub before_class : IsIdeal line_of_classes (just_released 1344000 672000)
 
 pub record OrdersAreKept : Type 0 where
   pub everywhere : OrdersAreEverywhere

@@ -1,7 +1,9 @@
 use Rattle.std.proofs.Common.{◌≡◌, ℕ, ◌*◌, true, false, None, refl, sym, ap, subst, ◌∙◌, arith, lit<}
 use Rattle.std.proofs.lemmas.Bool.{false≢true}
-use Rattle.ats_topology.specs.Node.{is_station, residence_of}
+use Rattle.ats_topology.specs.Node.{clock_of, is_station, residence_of}
+use Rattle.ats_topology.specs.declared.node.Kind.{Kind}
 use Rattle.ats_network.specs.Edits.{no_stream}
+use Rattle.ats_certificate.specs.Certificate.{need_by}
 use Rattle.ats_certificate.specs.declared.row.Row.{Row}
 use Rattle.ats_tally.proofs.Places.{IsPlace, is_place}
 use Rattle.ats_bound.specs.Least.{least_row}
@@ -43,7 +45,8 @@ another_need : ¬ AreParts own 0 7 (parts_with 0 7 (stay 12336001 1000000000))
 another_need h =
     let told : IsStayBehind own 0 12336000 (record { need = 12336001; residence = 1000000000 }) =
     stay_of 0 7 (parts_with 0 7 (stay 12336001 1000000000)) at_end h in
-    let e : ◌≡◌ {A = ℕ} 12336001 12336000 = told.need in
+    let e : ◌≡◌ {A = ℕ} 12336001 12336000 =
+    told.need ∙ ap (λ (kind : Kind). need_by (clock_of kind) 12336000) (sym told.bridge) in
     absurd (omega arith)
 
 another_residence : ¬ AreParts own 0 7 (parts_with 0 7 (stay 12336000 1000000))
@@ -63,7 +66,8 @@ not_of_other : ¬ AreParts own 0 6 (parts_with 0 6 (stay 12336000 1000000000))
 not_of_other h =
     let told : IsStayBehind own 0 12460607 (record { need = 12336000; residence = 1000000000 }) =
     stay_of 0 6 (parts_with 0 6 (stay 12336000 1000000000)) going_on h in
-    let e : ◌≡◌ {A = ℕ} 12336000 12460607 = told.need in
+    let e : ◌≡◌ {A = ℕ} 12336000 12460607 =
+    told.need ∙ ap (λ (kind : Kind). need_by (clock_of kind) 12460607) (sym told.bridge) in
     absurd (omega arith)
 
 no_bridge : ¬ AreParts own 2 7 (parts_with 2 7 (stay 12336000 0))

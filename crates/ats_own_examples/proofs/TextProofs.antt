@@ -1,7 +1,7 @@
 use Rattle.std.proofs.Common.{refl}
 use Rattle.std.specs.Fmt.{digits}
 use Rattle.ats_settings_text.specs.Text as settings
-use Rattle.ats_network_text.specs.Text.{show_text, port_line, classes_text, sender_line, totals_line}
+use Rattle.ats_network_text.specs.Text.{show_text, port_line, classes_text, rates_line, sender_line, totals_line}
 use Rattle.ats_verdict_text.specs.Text.{listener_lines}
 use Rattle.ats_verdict_text.specs.Text as verdict
 use Rattle.ats_explain_text.specs.Text.{explain_text, stream_line, wait_text, bound_text, hop_line, counts_text}
@@ -19,7 +19,7 @@ use Rattle.ats_own_examples.specs.Texts.{VerdictsAreWritten, behind_settings, br
 -- Texts by computation.
 
 shown : PathsAreShown
-unfolding digits show_text port_line classes_text sender_line totals_line
+unfolding digits show_text port_line classes_text rates_line sender_line totals_line
 shown = record { of_own = refl; of_local = refl; of_bridge = refl; of_behind = refl }
 
 accepted : VerdictsAreWritten

@@ -1,6 +1,6 @@
 use Rattle.std.specs.Prelude.{◌≡◌, ℕ, List, [], ◌∷◌, ◌++◌, codes, Some}
 use Rattle.ats_trace.specs.Journey.{Travel}
-use Rattle.ats_trace.specs.Run.{IsLegal, releases_of}
+use Rattle.ats_trace.specs.Run.{IsIdeal, releases_of}
 use Rattle.ats_conform.specs.Releases.{AllKeepBuckets}
 use Rattle.ats_gen.specs.Made.{made}
 use Rattle.ats_tally.specs.Delays.{sums_for}
@@ -166,9 +166,9 @@ local_sent =
 -- the first hop of a frame is at the bridge where this sends it, and a frame arrives where its route ends, also at a
 -- bridge; there no regulator judges it, so that it may be longer than is declared, and one of more than the burst
 pub record RunsAreSent : Type 0 where
-  pub ending_legal : IsLegal own_and_flow ending_frames
+  pub ending_legal : IsIdeal own_and_flow ending_frames
   pub of_ending : departures_text own_and_flow ending_frames ≡ ending_sent
-  pub local_legal : IsLegal local local_frames
+  pub local_legal : IsIdeal local local_frames
   pub of_local : departures_text local local_frames ≡ local_sent
   pub of_own : departures_text own own_frames ≡ own_sent
   pub of_babbler : departures_text own own_babbler ≡ babbler_sent
@@ -206,13 +206,13 @@ local_reported =
 -- each stream and flow has its line, also one that begins or ends at a bridge, with the sum of its bounds
 pub record RunsAreReported : Type 0 where
   pub own_releases : releases_of own_made ≡ made own 1 3
-  pub own_legal : IsLegal own own_made
+  pub own_legal : IsIdeal own own_made
   pub of_own : report_text own own_made (Some (sums_for own own_rows)) ≡ own_reported
   pub bridge_releases : releases_of bridge_made ≡ made from_bridge 1 3
-  pub bridge_legal : IsLegal from_bridge bridge_made
+  pub bridge_legal : IsIdeal from_bridge bridge_made
   pub of_bridge : report_text from_bridge bridge_made (Some (sums_for from_bridge bridge_rows)) ≡ bridge_reported
   pub local_releases : releases_of local_made ≡ made local 1 6
-  pub local_legal : IsLegal local local_made
+  pub local_legal : IsIdeal local local_made
   pub of_local : report_text local local_made (Some (sums_for local local_rows)) ≡ local_reported
 
 -- a run with a bridge that babbles is one in which not all nodes keep their buckets

@@ -97,6 +97,10 @@ bridge_with text = bridge_in (with_key Two table.Bridge of_bridge text)
 abbrev pub plain_bridge_with : List ℕ → Result BridgeEntry DocumentFault
 plain_bridge_with text = bridge_in (with_key One table.Bridge of_plain_bridge text)
 
+-- in format 3, whose bridges may have clocks
+abbrev pub clocked_bridge_with : List ℕ → Result BridgeEntry DocumentFault
+clocked_bridge_with text = bridge_in (with_key Three table.Bridge of_bridge text)
+
 abbrev pub link_with : List ℕ → Result LinkEntry DocumentFault
 link_with text = link_in (with_key Two table.Link of_link text)
 
@@ -132,7 +136,7 @@ abbrev pub of_streams : List Key
 of_streams =
     key.Class ∷ key.Classes ∷ key.RateBps ∷ key.BurstBits ∷ key.MinOctets ∷ key.DeadlineNs ∷ key.Address ∷ key.Vlan ∷ []
 
--- and of flows too, of links, of bridges in both formats, and of the top
+-- and of flows too, of links, of bridges in each format, and of the top
 abbrev pub of_senders : List Key
 of_senders = key.Path ∷ key.Paths ∷ key.From ∷ key.To ∷ key.MaxOctets ∷ of_streams
 
@@ -140,7 +144,8 @@ abbrev pub of_links : List Key
 of_links = key.A ∷ key.B ∷ key.Mbps ∷ key.PropagationNs ∷ []
 
 abbrev pub of_bridges : List Key
-of_bridges = key.ResidenceNs ∷ key.ProcessingNs ∷ key.ProcessingMinNs ∷ key.ProcessingMaxNs ∷ []
+of_bridges = key.ResidenceNs ∷ key.ProcessingNs ∷ key.ProcessingMinNs ∷ key.ProcessingMaxNs ∷ key.ClockPpm
+    ∷ key.ClockStepPs ∷ []
 
 abbrev pub of_the_top : List Key
 of_the_top = key.Format ∷ key.Station ∷ key.Bridge ∷ key.Link ∷ key.Stream ∷ key.LinkLocal ∷ key.Flow
@@ -154,6 +159,10 @@ pub record NearlyAreUnknown : Type 0 where
       ≡ unknown table.Bridge 20
   pub plain_bridge : map plain_bridge_with (flat_map nearly (key.Name ∷ key.ProcessingNs ∷ key.ResidenceNs ∷ []))
       ≡ unknown table.Bridge 15
+  pub clocked_bridge : map clocked_bridge_with
+      (flat_map nearly (key.Name ∷ key.ProcessingMinNs ∷ key.ProcessingMaxNs ∷ key.ResidenceNs ∷ key.ClockPpm
+      ∷ key.ClockStepPs ∷ []))
+      ≡ unknown table.Bridge 30
   pub link : map link_with (flat_map nearly (key.A ∷ key.B ∷ key.Mbps ∷ key.PropagationNs ∷ []))
       ≡ unknown table.Link 20
   pub flow : map flow_with (flat_map nearly (key.Name ∷ key.Path ∷ key.From ∷ key.To ∷ key.MaxOctets ∷ []))
@@ -181,32 +190,37 @@ pub record NearlyAreUnknown : Type 0 where
 -- each key of the other tables is unknown to a table
 pub record OthersAreUnknown : Type 0 where
   pub station : map (λ k. station_with (key_text k)) (of_senders ++ of_links ++ of_bridges ++ of_the_top)
-      ≡ unknown table.Station 29
-  pub bridge : map (λ k. bridge_with (key_text k)) (key.ProcessingNs ∷ of_senders ++ of_links ++ of_the_top)
-      ≡ unknown table.Bridge 26
+      ≡ unknown table.Station 31
+  pub bridge : map (λ k. bridge_with (key_text k))
+      (key.ProcessingNs ∷ key.ClockPpm ∷ key.ClockStepPs ∷ of_senders ++ of_links ++ of_the_top)
+      ≡ unknown table.Bridge 28
   pub plain_bridge : map (λ k. plain_bridge_with (key_text k))
-      (key.ProcessingMinNs ∷ key.ProcessingMaxNs ∷ of_senders ++ of_links ++ of_the_top)
-      ≡ unknown table.Bridge 27
+      (key.ProcessingMinNs ∷ key.ProcessingMaxNs ∷ key.ClockPpm ∷ key.ClockStepPs ∷ of_senders ++ of_links
+      ++ of_the_top)
+      ≡ unknown table.Bridge 29
+  pub clocked_bridge : map (λ k. clocked_bridge_with (key_text k))
+      (key.ProcessingNs ∷ of_senders ++ of_links ++ of_the_top)
+      ≡ unknown table.Bridge 26
   pub link : map (λ k. link_with (key_text k)) (key.Name ∷ of_senders ++ of_bridges ++ of_the_top)
-      ≡ unknown table.Link 26
+      ≡ unknown table.Link 28
   pub flow : map (λ k. flow_with (key_text k)) (key.Paths ∷ of_streams ++ of_links ++ of_bridges ++ of_the_top)
-      ≡ unknown table.Flow 25
+      ≡ unknown table.Flow 27
   pub stream : map (λ k. stream_with (key_text k)) (key.Paths ∷ of_links ++ of_bridges ++ of_the_top)
-      ≡ unknown table.Stream 17
+      ≡ unknown table.Stream 19
   pub stream_of_three : map (λ k. stream_of_three (key_text k)) (of_links ++ of_bridges ++ of_the_top)
-      ≡ unknown table.Stream 16
+      ≡ unknown table.Stream 18
   pub link_local : map (λ k. link_local_with (key_text k))
       (key.Path ∷ key.Paths ∷ key.From ∷ key.To ∷ key.Classes ∷ key.Address ∷ key.Vlan ∷ of_links ++ of_bridges
       ++ of_the_top)
-      ≡ unknown table.LinkLocal 23
+      ≡ unknown table.LinkLocal 25
   pub link_local_flow : map (λ k. link_local_flow_with (key_text k))
       (key.Path ∷ key.Paths ∷ key.From ∷ key.To ∷ of_streams ++ of_links ++ of_bridges ++ of_the_top)
-      ≡ unknown table.LinkLocalFlow 28
+      ≡ unknown table.LinkLocalFlow 30
   pub top : map (λ k. top_with (key_text k))
       (key.Name ∷ key.LinkLocal ∷ key.LinkLocalFlow ∷ of_senders ++ of_links ++ of_bridges)
-      ≡ replicate 24 (Err (Unknown table.Top 0))
+      ≡ replicate 26 (Err (Unknown table.Top 0))
   pub top_of_three : map (λ k. top_of_three_with (key_text k)) (key.Name ∷ of_senders ++ of_links ++ of_bridges)
-      ≡ replicate 22 (Err (Unknown table.Top 0))
+      ≡ replicate 24 (Err (Unknown table.Top 0))
 
 pub record KeysAreExact : Type 0 where
   pub nearly : NearlyAreUnknown

@@ -1,5 +1,5 @@
 -- A capture with frames of three senders, by computation.
-use Rattle.std.proofs.Common.{◌≡◌, ℕ, ◌/◌, ◌^◌, Bool, nat_lt, List, get_or, take, refl, lit≤}
+use Rattle.std.proofs.Common.{ℕ, ◌/◌, ◌^◌, Bool, nat_lt, List, get_or, take, refl, lit≤}
 use Rattle.std.proofs.lemmas.Bool.{ltb-true}
 use Rattle.std.proofs.lemmas.List.Sums.{AllPass-from_list_all}
 use Rattle.std.proofs.lemmas.List.Sorted.{IsNonDecreasingBy-push, IsNonDecreasingBy-short, IsPermutation-refl}

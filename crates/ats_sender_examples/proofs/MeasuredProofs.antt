@@ -1,5 +1,5 @@
 -- What is measured of three senders, by computation.
-use Rattle.std.proofs.Common.{◌≡◌, ℕ, zero, suc, ◌<◌, ◌≤◌, List, [], ◌∷◌, length, arith, lit<, lit≤, refl}
+use Rattle.std.proofs.Common.{ℕ, zero, suc, ◌<◌, ◌≤◌, List, [], ◌∷◌, length, arith, lit<, lit≤, refl}
 use Rattle.std.specs.Prelude.{nat_le, slice_index_or, Option, Some, None}
 use Rattle.std.specs.Fmt.{digits}
 use Rattle.ats_trace.specs.Talker.{frames_of}

@@ -1,4 +1,4 @@
-use Rattle.std.specs.Prelude.{ℕ, List, [], ◌∷◌, codes, Some}
+use Rattle.std.specs.Prelude.{[], ◌∷◌, codes, Some}
 use Rattle.ats_topology.specs.Topology.{topology_of}
 use Rattle.ats_streams.specs.Stream.{declared_stream}
 use Rattle.ats_streams.specs.Flow.{declared_flow}

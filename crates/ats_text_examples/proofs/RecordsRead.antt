@@ -27,6 +27,7 @@ streams_are_identified = record {
   there = refl;
   no_stream = refl;
   no_tag = refl;
+  after_untagged = refl;
 }
 
 tags_are_told : TagsAreTold

@@ -6,7 +6,7 @@ use Rattle.ats_pcap.specs.Capture.{records_of}
 use Rattle.ats_pcap.specs.declared.fault.CaptureFault.TheVariants.{CutShort, BadLink, BadMagic, BadVersion, PcapNg}
 use Rattle.ats_pcap.specs.declared.record.Record.{Record}
 use Rattle.ats_capture.specs.Traffic.{stream_of}
-use Rattle.ats_text_examples.specs.Worked.{way}
+use Rattle.ats_text_examples.specs.Worked.{u, way}
 
 -- The bytes of two captures, their records, and the streams that these belong to.
 
@@ -109,7 +109,11 @@ tagged_way = declared_network way.topology
     (tagged (codes "a") (0 ∷ 2 ∷ 4 ∷ []) 0xA1 7 ∷ tagged (codes "b") (0 ∷ 2 ∷ 4 ∷ []) 0xA1 8
     ∷ tagged (codes "c") (0 ∷ 2 ∷ 4 ∷ []) 0xA2 7 ∷ tagged (codes "d") (5 ∷ 3 ∷ 1 ∷ []) 0xA2 8 ∷ []) []
 
--- a record at a station belongs to the stream that begins there and has both
+-- a stream without them in front of one that has them
+abbrev pub untagged_first : DeclaredNetwork
+untagged_first = declared_network way.topology (u ∷ tagged (codes "a") (0 ∷ 2 ∷ 4 ∷ []) 0xA1 7 ∷ []) []
+
+-- a record at a station belongs to the stream that begins there and has both, by its number among all streams
 pub record StreamsAreIdentified : Type 0 where
   pub first : stream_of tagged_way 0 (Some (0xA1, 7)) ≡ Some 0
   pub second : stream_of tagged_way 0 (Some (0xA1, 8)) ≡ Some 1
@@ -118,6 +122,7 @@ pub record StreamsAreIdentified : Type 0 where
   pub there : stream_of tagged_way 1 (Some (0xA2, 8)) ≡ Some 3
   pub no_stream : stream_of tagged_way 0 (Some (0xA2, 9)) ≡ None
   pub no_tag : stream_of tagged_way 0 None ≡ None
+  pub after_untagged : stream_of untagged_first 0 (Some (0xA1, 7)) ≡ Some 1
 
 -- so they are read, and one that ends inside the next record has a fault there
 pub record CapturesAreRead : Type 0 where

@@ -1,7 +1,8 @@
 use Rattle.std.specs.Prelude.{◌≡◌, ℕ, List, [], ◌∷◌, ◌++◌, codes, Option, Some, None}
 use Rattle.ats_fit.specs.Over.{senders_over}
 use Rattle.ats_fit.specs.declared.measured.Measured.{Measured}
-use Rattle.ats_fit_text.specs.Text.{fit_text}
+use Rattle.ats_trace.specs.declared.journey.Release.{Release}
+use Rattle.ats_fit_text.specs.Text.{IsFitText, fit_text}
 use Rattle.ats_text_examples.specs.Runs.{release}
 use Rattle.ats_text_examples.specs.Worked.{way}
 
@@ -26,8 +27,20 @@ fitted =
     ++ codes "flow f frames 2 octets 65 1400\n"
     ++ codes "total frames 2 streams 2 over 1\n"
 
--- to `fit`; and how many are over what they declare: a burst that is just the declared one is not, octets outside the
--- declared ones are, those of the flow too
+-- a frame of each, of a size that it does not declare: too long, too short, too long
+abbrev pub undeclared : List Release
+undeclared = release 0 0 1523 ∷ release 1 1 99 ∷ release 2 2 1401 ∷ []
+
+abbrev pub undeclared_fitted : List ℕ
+undeclared_fitted =
+    codes "stream u frames 1 octets 1523 1523 burst 12344 of 9001\n"
+    ++ codes "stream v frames 1 octets 99 99 burst 952 of 10003\n"
+    ++ codes "flow f frames 1 octets 1401 1401\n"
+    ++ codes "total frames 3 streams 2 over 3\n"
+
+-- to `fit`; how many are over what they declare: a burst that is just the declared one is not, octets outside the
+-- declared ones are, those of the flow too; and what is due to these frames, which count though their sizes are
+-- undeclared
 pub record FitsAreWritten : Type 0 where
   pub fit : fit_text way (release 1 0 64 ∷ release 2 0 1000 ∷ []) all ≡ fitted
   pub just : senders_over way (measured 3 64 1000 (Some 9001) ∷ measured 1 100 1200 (Some 10003)
@@ -36,3 +49,4 @@ pub record FitsAreWritten : Type 0 where
       ∷ measured 2 64 1400 None ∷ []) ≡ 2
   pub greatest : senders_over way (measured 3 64 1001 (Some 9001) ∷ measured 1 100 1201 (Some 10004)
       ∷ measured 2 64 1401 None ∷ []) ≡ 3
+  pub any_size : IsFitText way undeclared undeclared_fitted

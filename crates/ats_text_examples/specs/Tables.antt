@@ -100,8 +100,22 @@ document_with format first second = record {
   format = format;
   stations = record { name = codes "s1" } ∷ record { name = codes "s2" } ∷ [];
   bridges =
-      record { name = codes "b1"; processing_min_ns = first; processing_max_ns = 1001; residence_ns = 50001 }
-      ∷ record { name = codes "b2"; processing_min_ns = second; processing_max_ns = 1302; residence_ns = 50302 } ∷ [];
+      record {
+        name = codes "b1";
+        processing_min_ns = first;
+        processing_max_ns = 1001;
+        residence_ns = 50001;
+        clock_ppm = 0;
+        clock_step_ps = 0;
+      }
+      ∷ record {
+        name = codes "b2";
+        processing_min_ns = second;
+        processing_max_ns = 1302;
+        residence_ns = 50302;
+        clock_ppm = 0;
+        clock_step_ps = 0;
+      } ∷ [];
   links =
       record { a = codes "s1"; b = codes "b1"; mbps = 100; propagation_ns = 41 }
       ∷ record { a = codes "b2"; b = codes "s2"; mbps = 2500; propagation_ns = 42 } ∷ [];

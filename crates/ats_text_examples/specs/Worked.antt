@@ -14,8 +14,8 @@ use Rattle.ats_network.specs.Network.{DeclaredNetwork, declared_network}
 abbrev pub way_nodes : ℕ → List Node
 way_nodes residence_ns =
     record { name = codes "s1"; kind = Station } ∷ record { name = codes "s2"; kind = Station }
-    ∷ record { name = codes "b1"; kind = Bridge 700 1500 residence_ns }
-    ∷ record { name = codes "b2"; kind = Bridge 2100 2400 20000 } ∷ []
+    ∷ record { name = codes "b1"; kind = Bridge 700 1500 residence_ns 0 0 }
+    ∷ record { name = codes "b2"; kind = Bridge 2100 2400 20000 0 0 } ∷ []
 
 abbrev pub way_links : List Link
 way_links =

@@ -71,7 +71,8 @@ pub fn delays_are_written()
     ensures { DelaysAreWritten }
 {}
 
-/// What `fit` prints of streams and flows with releases and without, and which of them are over what they declare.
+/// What `fit` prints of streams and flows with releases and without, which of them are over what they declare, and that
+/// frames of undeclared sizes count.
 pub fn fits_are_written()
     ensures { FitsAreWritten }
 {}

@@ -3,18 +3,19 @@ use Rattle.std.proofs.lemmas.List.Elements.{All-cons, All-nil}
 use Rattle.ats_streams.specs.Stream.{DeclaredStream}
 use Rattle.ats_network.specs.Sender.{stream_sender}
 use Rattle.ats_certificate.specs.declared.row.Row.{Row}
+use Rattle.ats_trace.specs.Clocks.{IsLegal}
 use Rattle.ats_trace.specs.Journey.{Travel}
 use Rattle.ats_trace.specs.Run.{releases_of}
 use Rattle.ats_trace.specs.Stored.{travel_at}
 use Rattle.ats_trace.specs.Talker.{talker_of}
-use Rattle.ats_group.specs.Judge.{bucket_rule}
 use Rattle.ats_trace.specs.Ways.{listener_count, route_to}
+use Rattle.ats_soundness_law.specs.TrueTime.{KeepsBucketsIn}
 use Rattle.ats_checker.specs.InTime.{ArrivesInTime, FramesAreInTime}
 use Rattle.ats_checker.proofs.InTime.{holding_is_in_time}
 use Rattle.ats_examples.proofs.BucketTest.{keeps_by}
 use Rattle.ats_examples.proofs.PartTest.{legal_by}
 use Rattle.ats_examples.proofs.RuleTest.{holds_by}
-use Rattle.ats_examples.proofs.StationTest.{bridges_by}
+use Rattle.ats_examples.proofs.StationTest.{bridges_in, keeps_in, legal_of}
 use Rattle.ats_tree_examples.specs.Networks.{tree_within}
 use Rattle.ats_tree_examples.specs.Runs.{one_split, over_tree}
 use Rattle.ats_tree_examples.specs.Bounds.{tree_rows}
@@ -28,12 +29,18 @@ in_time : FramesAreInTime (tree_within 54344) tree_rows
 in_time = holding_is_in_time (tree_within 54344) tree_rows (within_is 54344 refl)
     (holds_by (tree_within 54344) tree_rows refl refl)
 
+-- a legal run over the tree, whose talker keeps its buckets
+legal : IsLegal (tree_within 54344) (over_tree ∷ [])
+legal = legal_of (tree_within 54344) (over_tree ∷ []) (within_is 54344 refl)
+    (legal_by (tree_within 54344) (over_tree ∷ []) refl)
+
+kept : KeepsBucketsIn (tree_within 54344) (over_tree ∷ []) legal (talker_of (tree_within 54344) 0)
+kept = keeps_in (tree_within 54344) (over_tree ∷ []) legal (talker_of (tree_within 54344) 0) refl
+    (keeps_by (tree_within 54344) (releases_of (over_tree ∷ [])) (talker_of (tree_within 54344) 0) refl refl)
+
 met : ArrivesInTime tree_rows (tree_stream 54344) over_tree
-met m within = in_time (over_tree ∷ []) (legal_by (tree_within 54344) (over_tree ∷ []) refl) over_tree
-    (0, lit< tt, refl) (tree_stream 54344) refl
-    (keeps_by (tree_within 54344) (releases_of (over_tree ∷ [])) (talker_of (tree_within 54344) 0) refl refl) m within
-    (bridges_by bucket_rule (tree_within 54344) (releases_of (over_tree ∷ []))
-    (route_to (stream_sender (tree_stream 54344)) m) refl)
+met m within = in_time (over_tree ∷ []) legal over_tree (0, lit< tt, refl) (tree_stream 54344) refl kept m within
+    (bridges_in (tree_within 54344) (over_tree ∷ []) legal (route_to (stream_sender (tree_stream 54344)) m) refl)
 
 -- a frame that is late at some listener is not in time
 late_at : (rows : List Row) (stream : DeclaredStream) (j : Travel) (first : ℕ) (late others : List ℕ)

@@ -1,10 +1,11 @@
 use Rattle.std.proofs.Common.{refl}
 use Rattle.std.specs.Fmt.{digits}
-use Rattle.ats_network_text.specs.Text.{show_text, port_line, classes_text, sender_line, totals_line}
+use Rattle.ats_network_text.specs.Text.{show_text, port_line, classes_text, rates_line, sender_line, totals_line}
 use Rattle.ats_verdict_text.specs.Text.{accepted_text, listener_lines}
 use Rattle.ats_verdict_text.specs.Text as verdict
 use Rattle.ats_explain_text.specs.Text.{explain_text, stream_line, wait_text, bound_text, hop_line, counts_text}
 use Rattle.ats_explain_text.specs.Text as explain
+use Rattle.ats_tree_bound_examples.specs.RateTexts.{RatesAreShown}
 use Rattle.ats_tree_bound_examples.specs.Texts.{BoundsAreWritten, ExplanationIsWritten, LegsAreShown}
 use Rattle.ats_tree_bound_examples.specs.Texts.{ReasonsAreWritten}
 
@@ -25,8 +26,12 @@ unfolding digits verdict.hop_line listener_lines
 bounds_are_written = record { in_order = refl; in_another_order = refl }
 
 pub legs_are_shown : LegsAreShown
-unfolding digits show_text port_line classes_text sender_line totals_line
+unfolding digits show_text port_line classes_text rates_line sender_line totals_line
 legs_are_shown = record { classes = refl; in_another_order = refl; in_another_class = refl }
+
+pub rates_are_shown : RatesAreShown
+unfolding digits show_text port_line classes_text rates_line sender_line totals_line
+rates_are_shown = record { show = refl }
 
 pub explanation_is_written : ExplanationIsWritten
 unfolding digits explain_text stream_line wait_text bound_text hop_line explain.port_line counts_text

@@ -7,3 +7,4 @@ pub mod SetAlike
 pub mod Texts
 pub mod OrderTexts
 pub mod RunTexts
+pub mod RateTexts

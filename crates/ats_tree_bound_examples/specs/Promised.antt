@@ -1,9 +1,9 @@
 use Rattle.std.specs.Prelude.{List, All}
 use Rattle.ats_network.specs.Senders.{sender_at}
 use Rattle.ats_certificate.specs.declared.row.Row.{Row}
-use Rattle.ats_group.specs.Judge.{ats_judge, bucket_rule}
 use Rattle.ats_trace.specs.Journey.{Travel}
 use Rattle.ats_trace.specs.Stored.{travel_at}
+use Rattle.ats_soundness_law.specs.Runs.{ats_runs}
 use Rattle.ats_soundness_law.specs.Sound.{AreContained, AreServed, IsContained, IsServed, IsSound}
 use Rattle.ats_checker.specs.InTime.{ArrivesInTime, FramesAreInTime}
 use Rattle.ats_examples.specs.Babbler.{babbler}
@@ -30,8 +30,8 @@ pub record FramesAreForEach : Type 0 where
 -- any sound rows the frame beside a babbler is served, of whose station alone it is asked that it keeps its buckets;
 -- and each frame is contained, those of the babbler too, on its way to each listener
 pub record SoundIsForEach : Type 0 where
-  pub not_served : ¬ AreServed ats_judge bucket_rule split short_split_rows
-  pub not_contained : ¬ AreContained ats_judge bucket_rule split short_split_rows
+  pub not_served : ¬ AreServed ats_runs split short_split_rows
+  pub not_contained : ¬ AreContained ats_runs split short_split_rows
   pub served : (rows : List Row) → IsSound fork rows → IsServed rows (sender_at fork 0) (travel_at babbler 0)
   pub contained : (rows : List Row) → IsSound crossed rows
       → All (λ (j : Travel). IsContained rows (sender_at crossed j.release.sender) j) crossed_babbler

@@ -4,7 +4,7 @@ use Rattle.ats_streams.specs.Traffic.{is_declared_size}
 use Rattle.ats_group.specs.Group.{Offer}
 use Rattle.ats_group.specs.Judge.{ats_judge}
 use Rattle.ats_network.specs.Network.{DeclaredNetwork, long_network, senders_of}
-use Rattle.ats_trace.specs.Eligibility.{declared_by, residence_of_groups}
+use Rattle.ats_trace.specs.Eligibility.{declared_by, residence_of_groups, scheduled_by}
 use Rattle.ats_settings.specs.Laws.{GoesOnBy}
 use Rattle.ats_settings.specs.declared.setting.Setting.{Setting}
 use Rattle.ats_settings_law.specs.Laws.{AreSetAlike, IsKnown, IsNamed, IsNotShort}
@@ -59,8 +59,8 @@ pub record TwoAreSetAlike : Type 0 where
   pub differ : senders_of split_and_flow ≢ senders_of renamed
   pub alike : AreSetAlike split_and_flow renamed settings_of_both
   pub known : All (IsKnown split_and_flow renamed settings_of_both 0) frames
-  pub judged : ats_judge (declared_by split_and_flow) (residence_of_groups split_and_flow 0) frames
-      ≡ ats_judge (declared_by renamed) (residence_of_groups renamed 0) frames
+  pub judged : ats_judge (scheduled_by split_and_flow 0) (residence_of_groups split_and_flow 0) frames
+      ≡ ats_judge (scheduled_by renamed 0) (residence_of_groups renamed 0) frames
   pub named : IsNamed settings_of_both 1 5
   pub not_short : IsNotShort split_and_flow long_of_flow
   pub passed : is_declared_size (declared_by split_and_flow 1) 1523 ≡ is_declared_size (declared_by renamed 1) 1523

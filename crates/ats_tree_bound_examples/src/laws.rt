@@ -3,6 +3,7 @@
 ghost use Rattle.ats_tree_bound_examples.specs.InTime.{DeadlinesAreForEach};
 ghost use Rattle.ats_tree_bound_examples.specs.Explained.{TotalsAreOfEach};
 ghost use Rattle.ats_tree_bound_examples.specs.Promised.{FramesAreForEach, SoundIsForEach};
+ghost use Rattle.ats_tree_bound_examples.specs.RateTexts.{RatesAreShown};
 ghost use Rattle.ats_tree_bound_examples.specs.RunTexts.{RunsAreWritten};
 ghost use Rattle.ats_tree_bound_examples.specs.Refusals.{RefusalsNameListeners};
 ghost use Rattle.ats_tree_bound_examples.specs.SetAlike.{SetAlikeIsMet};
@@ -52,6 +53,12 @@ pub fn bounds_are_written()
 /// What `show` prints: the hops of each leg, with their classes.
 pub fn legs_are_shown()
     ensures { LegsAreShown }
+{}
+
+/// What `show` prints where clocks change rates and bursts: a line `rates` behind the legs of a stream, with the ports
+/// in their order.
+pub fn rates_are_shown()
+    ensures { RatesAreShown }
 {}
 
 /// What `explain` prints where two of four listeners are late, in the order of legs.

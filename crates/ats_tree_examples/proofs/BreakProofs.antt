@@ -8,7 +8,7 @@ use Rattle.ats_group.specs.declared.verdict.Verdict.{Verdict}
 use Rattle.ats_network.specs.Network.{DeclaredNetwork}
 use Rattle.ats_trace.specs.Journey.{Travel, no_leg}
 use Rattle.ats_trace.specs.Parts.{Part, copies, links, prompt, groups, Keeps}
-use Rattle.ats_trace.specs.Eligibility.{declared_by, offer_of, residence_of_groups, IsJudged}
+use Rattle.ats_trace.specs.Eligibility.{scheduled_by, offer_of, residence_of_groups, IsJudged}
 use Rattle.ats_trace.specs.Projections.{Handed, sent_by, handed_by}
 use Rattle.ats_trace.specs.Stored.{no_travel}
 use Rattle.ats_trace.specs.declared.journey.Ending.TheVariants.{Sink, Discard}
@@ -134,14 +134,14 @@ not_late keeps =
     absurd (omega arith)
 
 -- three frames that come to a group one after the other are judged in this order
-judged_in_order : (network : DeclaredNetwork) (residence : ℕ) (a b c : Handed)
+judged_in_order : (network : DeclaredNetwork) (port : ℕ) (a b c : Handed)
     → a.crossing.arrival < b.crossing.arrival → b.crossing.arrival < c.crossing.arrival
-    → IsJudged ats_judge network residence (a ∷ b ∷ c ∷ [])
-    → map (λ (f : Handed). f.verdict) (a ∷ b ∷ c ∷ []) ≡ verdicts_of (declared_by network) residence
-    (first (declared_by network)) (map offer_of (a ∷ b ∷ c ∷ []))
-judged_in_order network residence a b c ab bc judged =
-    subst (λ (frames : List Handed). map (λ (f : Handed). f.verdict) frames ≡ verdicts_of (declared_by network)
-    residence (first (declared_by network)) (map offer_of frames))
+    → IsJudged ats_judge network port (a ∷ b ∷ c ∷ [])
+    → map (λ (f : Handed). f.verdict) (a ∷ b ∷ c ∷ []) ≡ verdicts_of (scheduled_by network port)
+    (residence_of_groups network port) (first (scheduled_by network port)) (map offer_of (a ∷ b ∷ c ∷ []))
+judged_in_order network port a b c ab bc judged =
+    subst (λ (frames : List Handed). map (λ (f : Handed). f.verdict) frames ≡ verdicts_of (scheduled_by network port)
+    (residence_of_groups network port) (first (scheduled_by network port)) (map offer_of frames))
     (in_order (λ (f : Handed). f.crossing.arrival) a b c judged.arrivals ab bc judged.same judged.in_order)
     judged.verdicts
 
@@ -153,9 +153,9 @@ frame_in network run n = get_or (handed_by network run 0 6) n no_frame
 not_counted_twice : ¬ Keeps groups split (counted_with 72220000 72220000)
 not_counted_twice keeps =
     let told : map (λ (f : Handed). f.verdict) (handed_by split (counted_with 72220000 72220000) 0 6)
-    ≡ verdicts_of (declared_by split) (residence_of_groups split 0) (first (declared_by split))
+    ≡ verdicts_of (scheduled_by split 0) (residence_of_groups split 0) (first (scheduled_by split 0))
     (map offer_of (handed_by split (counted_with 72220000 72220000) 0 6))
-    = judged_in_order split (residence_of_groups split 0) (frame_in split (counted_with 72220000 72220000) 0)
+    = judged_in_order split 0 (frame_in split (counted_with 72220000 72220000) 0)
     (frame_in split (counted_with 72220000 72220000) 1) (frame_in split (counted_with 72220000 72220000) 2)
     (lit< tt) (lit< tt) (keeps 0 6 (lit< tt) (lit≤ tt)) in
     let late : ◌≡◌ {A = ℕ} 72220000 13692000 = ap (λ (vs : List Verdict). get_or (map time_in vs) 2 0) told in
@@ -165,9 +165,9 @@ not_counted_twice keeps =
 not_past : ¬ Keeps groups split_by_class past_its_group
 not_past keeps =
     let told : map (λ (f : Handed). f.verdict) (handed_by split_by_class past_its_group 0 6)
-    ≡ verdicts_of (declared_by split_by_class) (residence_of_groups split_by_class 0)
-    (first (declared_by split_by_class)) (map offer_of (handed_by split_by_class past_its_group 0 6))
-    = judged_in_order split_by_class (residence_of_groups split_by_class 0) (frame_in split_by_class past_its_group 0)
+    ≡ verdicts_of (scheduled_by split_by_class 0) (residence_of_groups split_by_class 0)
+    (first (scheduled_by split_by_class 0)) (map offer_of (handed_by split_by_class past_its_group 0 6))
+    = judged_in_order split_by_class 0 (frame_in split_by_class past_its_group 0)
     (frame_in split_by_class past_its_group 1) (frame_in split_by_class past_its_group 2)
     (lit< tt) (lit< tt) (keeps 0 6 (lit< tt) (lit≤ tt)) in
     let early : ◌≡◌ {A = ℕ} 26844000 27276000 = ap (λ (vs : List Verdict). get_or (map time_in vs) 2 0) told in

@@ -4,7 +4,6 @@ use Rattle.ats_num.specs.Pace.{drawn_wait}
 use Rattle.ats_num.specs.Tie.{late_key, mixed_key}
 use Rattle.ats_num.specs.declared.time.Ps.{Ps}
 use Rattle.ats_port_rule.specs.PortRule.{KeepsTie}
-use Rattle.ats_group.specs.Judge.{ats_judge}
 use Rattle.ats_group.specs.declared.verdict.Verdict.{Verdict}
 use Rattle.ats_trace.specs.OneVerdict.{HasOneVerdict}
 use Rattle.ats_trace.specs.Projections.{sent_by}
@@ -127,8 +126,8 @@ not_together one =
 
 pub verdicts_are_one : VerdictsAreOne
 verdicts_are_one = record {
-  in_tree = one_verdict ats_judge tree (over_tree ∷ []) tree_is copies_are_legal.to_four;
-  in_late = one_verdict ats_judge tree_and_flow late_in_tree tree_and_flow_is copies_are_legal.late_behind_one;
+  in_tree = one_verdict tree (over_tree ∷ []) tree_is copies_are_legal.to_four.journeys;
+  in_late = one_verdict tree_and_flow late_in_tree tree_and_flow_is copies_are_legal.late_behind_one.journeys;
   at_first = refl;
   at_second = refl;
   at_third = refl;

@@ -7,8 +7,9 @@ use Rattle.ats_network.specs.Senders.{sender_at}
 use Rattle.ats_certificate.specs.declared.row.Row.{Row}
 use Rattle.ats_soundness_law.specs.Rules.{bursts_are_right, frames_may_stay}
 use Rattle.ats_soundness_law.specs.Sound.{IsServed}
+use Rattle.ats_soundness_law.proofs.TrueTime.{certificate_is_sound}
 use Rattle.ats_trace.specs.Journey.{Travel, IsOfStream}
-use Rattle.ats_trace.specs.Run.{IsLegal, releases_of}
+use Rattle.ats_trace.specs.Run.{IsIdeal, releases_of}
 use Rattle.ats_trace.specs.Stored.{travel_at}
 use Rattle.ats_trace.specs.Talker.{talker_of, KeepsBuckets}
 use Rattle.ats_trace.specs.Ways.{listener_count}
@@ -18,7 +19,7 @@ use Rattle.ats_examples.proofs.PartTest.{legal_by}
 use Rattle.ats_examples.proofs.RuleProofs.{breaks, unsound_by}
 use Rattle.ats_examples.proofs.RuleTest.{holds_by, others_by, rest_by}
 use Rattle.ats_examples.proofs.SoundRunProofs.{served_in, contained_in}
-use Rattle.ats_examples.proofs.StationTest.{begin_at_stations}
+use Rattle.ats_examples.proofs.StationTest.{begin_at_stations, from_stations, legal_of}
 use Rattle.ats_examples.proofs.Tests.{lt_of, all_by}
 use Rattle.ats_tree_examples.specs.Networks.{split, split_and_flow, split_and_stream, crossed, tree, tree_and_flow}
 use Rattle.ats_tree_examples.specs.Runs.{one_split, behind_flow, tied_first, crossed_babbler, over_tree, late_in_tree}
@@ -34,7 +35,7 @@ use Rattle.ats_tree_examples.proofs.TreeProofs.{tree_and_flow_is}
 
 -- by the path law
 served_at : (network : DeclaredNetwork) (rows : List Row) (run : List Travel) (frame : ℕ) (times : List ℕ)
-    → IsCertified network rows → begin_at_stations network ≡ true → IsLegal network run
+    → IsCertified network rows → begin_at_stations network ≡ true → IsIdeal network run
     → Contains run (travel_at run frame)
     → IsOfStream network (travel_at run frame)
     → KeepsBuckets network (releases_of run) (talker_of network (travel_at run frame).release.sender)
@@ -78,7 +79,8 @@ listeners_are_served = record {
       (1, lit< tt, refl) (lit< tt)
       (keeps_by split_and_flow (releases_of behind_flow) (talker_of split_and_flow 0) refl refl) refl;
   not_later = not_later;
-  no_such_run = λ legal. not_later (served_in tree tree_rows (late_at_last ∷ []) late_at_last tree_certified refl legal
+  no_such_run = λ legal. not_later ((from_stations tree tree_rows refl
+      (certificate_is_sound tree tree_rows tree_is tree_certified.holds)).served (late_at_last ∷ []) legal late_at_last
       (0, lit< tt, refl) (lit< tt) last_kept);
 }
 
@@ -103,10 +105,11 @@ babblers_are_contained = record {
       (0, lit< tt, refl) (lit< tt)
       (keeps_by crossed (releases_of crossed_babbler) (talker_of crossed 0) refl refl) refl;
   contained = λ k d h. contained_in crossed crossed_rows crossed_babbler (get_or crossed_babbler k d) crossed_certified
-      refl copies_are_legal.babbled (All-contains_itself crossed_babbler k d h) (of_streams k d h);
+      refl (legal_of crossed crossed_babbler crossed_is copies_are_legal.babbled)
+      (All-contains_itself crossed_babbler k d h) (of_streams k d h);
 }
 
-tied_legal : IsLegal split_and_stream tied_first
+tied_legal : IsIdeal split_and_stream tied_first
 tied_legal = legal_by split_and_stream tied_first refl
 
 tied_kept : KeepsBuckets split_and_stream (releases_of tied_first) (talker_of split_and_stream 0)
@@ -124,8 +127,8 @@ branches_count = record {
   left_out = breaks bursts_are_right split_and_stream (rows_with_bursts 12336 11664000 12836000) split_and_stream_is
       (others_by bursts_are_right split_and_stream (rows_with_bursts 12336 11664000 12836000) refl)
       (rest_by split_and_stream (rows_with_bursts 12336 11664000 12836000) refl)
-      (unsound_by split_and_stream (rows_with_bursts 12336 11664000 12836000) tied_first 1 refl tied_legal
-      (1, lit< tt, refl) (lit< tt) tied_kept left_out_unserved);
+      (unsound_by split_and_stream (rows_with_bursts 12336 11664000 12836000) tied_first 1 split_and_stream_is
+      refl tied_legal (1, lit< tt, refl) (lit< tt) tied_kept left_out_unserved);
   counted = served_at split_and_stream (rows_with_bursts 24672 24000000 25172000) tied_first 1 _
       (record {
         rules = split_and_stream_is;
@@ -141,8 +144,8 @@ pub stay_counts : StayCounts
 stay_counts = record {
   alone = breaks frames_may_stay tree_and_flow rows_of_no_stay tree_and_flow_is
       (others_by frames_may_stay tree_and_flow rows_of_no_stay refl) (rest_by tree_and_flow rows_of_no_stay refl)
-      (unsound_by tree_and_flow rows_of_no_stay late_in_tree 2 refl copies_are_legal.late_behind_one (2, lit< tt, refl)
-      (lit< tt) late_kept (λ served. (served 0 (lit< tt)).prompt.1.1));
+      (unsound_by tree_and_flow rows_of_no_stay late_in_tree 2 tree_and_flow_is refl copies_are_legal.late_behind_one
+      (2, lit< tt, refl) (lit< tt) late_kept (λ served. (served 0 (lit< tt)).prompt.1.1));
   legal = copies_are_legal.late_behind_one;
   keeps = late_kept;
   before = record { prompt = (lit≤ tt, (lit≤ tt, lit≤ tt)); arrives = lit≤ tt };
@@ -229,7 +232,8 @@ late_for_fourth = late_for tree (short_tree_rows 12) over_tree 3 (0 ∷ 1 ∷ 2 
 pub each_listener_counts : EachListenerCounts
 each_listener_counts = record {
   over_one = split_late;
-  not_sound = unsound_by split short_split_rows one_split 0 refl copies_are_legal.one (0, lit< tt, refl) (lit< tt)
+  not_sound = unsound_by split short_split_rows one_split 0 split_is refl copies_are_legal.one (0, lit< tt, refl)
+      (lit< tt)
       (keeps_by split (releases_of one_split) (talker_of split 0) refl refl) split_late.not_served;
   for_first = late_for_first;
   for_second = late_for_second;

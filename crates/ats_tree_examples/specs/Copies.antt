@@ -8,7 +8,7 @@ use Rattle.ats_group.specs.declared.verdict.Verdict.TheVariants.{Eligible, Late}
 use Rattle.ats_trace.specs.Journey.{Travel}
 use Rattle.ats_trace.specs.OneVerdict.{HasOneVerdict, OneVerdictIn, judged_as, record_of}
 use Rattle.ats_trace.specs.Projections.{sent_by}
-use Rattle.ats_trace.specs.Run.{IsLegal, IsRunBy}
+use Rattle.ats_trace.specs.Run.{IsIdeal, IsRunBy}
 use Rattle.ats_trace.specs.Stored.{travel_at}
 use Rattle.ats_trace.specs.Ways.{listener_count, route_to, way_to}
 use Rattle.ats_examples.specs.LegalRuns.{frame_key, least_wait, greatest_wait}
@@ -31,16 +31,16 @@ use Rattle.ats_tree_examples.specs.Runs.{copies_behind, own_copies}
 -- copies over three bridges; a frame of a bridge, which sends a copy by each of its ports that the tree has, and one
 -- whose copy is copied behind it; and a frame that is discarded behind one branch and before another
 pub record CopiesAreLegal : Type 0 where
-  pub one : IsLegal split one_split
-  pub too_long : IsLegal split long_split
-  pub one_busy : IsLegal split_and_flow behind_flow
-  pub counted_once : IsLegal split within_burst
-  pub held : IsLegal split_by_class held_by_group
-  pub babbled : IsLegal crossed crossed_babbler
-  pub to_four : IsLegal tree (over_tree ∷ [])
-  pub own : IsLegal from_bridge own_copies
-  pub own_behind : IsLegal behind_bridge copies_behind
-  pub late_behind_one : IsLegal tree_and_flow late_in_tree
+  pub one : IsIdeal split one_split
+  pub too_long : IsIdeal split long_split
+  pub one_busy : IsIdeal split_and_flow behind_flow
+  pub counted_once : IsIdeal split within_burst
+  pub held : IsIdeal split_by_class held_by_group
+  pub babbled : IsIdeal crossed crossed_babbler
+  pub to_four : IsIdeal tree (over_tree ∷ [])
+  pub own : IsIdeal from_bridge own_copies
+  pub own_behind : IsIdeal behind_bridge copies_behind
+  pub late_behind_one : IsIdeal tree_and_flow late_in_tree
 
 -- a copy ties with other frames at its port by the key of its frame, and comes to the bridge by the frame's pace
 pub record CopiesGoByOrder : Type 0 where
@@ -56,7 +56,7 @@ pub record CopiesGoByOrder : Type 0 where
 -- their frames, and then no one key breaks the ties of both ports; and its copies may come by another pace
 pub record BranchesGoByOrder : Type 0 where
   pub in_order : IsRunBy frame_key least_wait split_and_slower copies_in_order
-  pub out_of_order : IsLegal split_and_slower copies_out_of_order
+  pub out_of_order : IsIdeal split_and_slower copies_out_of_order
   pub not_by_frame : ¬ IsRunBy frame_key least_wait split_and_slower copies_out_of_order
   pub by_no_one_key : (key : ℕ → ℕ → ℕ) → ¬ ((port : ℕ) → port < length split_and_slower.topology.ports
       → KeepsTie key (sent_by split_and_slower copies_out_of_order port))

@@ -5,7 +5,8 @@ use Rattle.ats_certificate.specs.declared.row.Row.{Row}
 use Rattle.ats_soundness_law.specs.Rules.{bursts_are_right, frames_may_stay}
 use Rattle.ats_soundness_law.specs.Sound.{IsContained, IsContainedOn, IsServed, IsServedOn, IsSound}
 use Rattle.ats_trace.specs.Journey.{Leg, Travel, legs_in}
-use Rattle.ats_trace.specs.Run.{IsLegal, releases_of}
+use Rattle.ats_trace.specs.Clocks.{IsLegal}
+use Rattle.ats_trace.specs.Run.{IsIdeal, releases_of}
 use Rattle.ats_trace.specs.Stored.{travel_at}
 use Rattle.ats_trace.specs.Talker.{talker_of, KeepsBuckets}
 use Rattle.ats_trace.specs.Ways.{route_to, way_to}
@@ -36,7 +37,7 @@ arrivals times = map (λ at. Sink (record { 0 = at })) times
 pub record IsServedAt (network : DeclaredNetwork) (rows : List Row) (run : List Travel) (frame : ℕ)
     (times : List ℕ) : Type 0 where
   pub certified : IsCertified network rows
-  pub legal : IsLegal network run
+  pub legal : IsIdeal network run
   pub keeps : KeepsBuckets network (releases_of run) (talker_of network (travel_at run frame).release.sender)
   pub served : IsServed rows (sender_at network (travel_at run frame).release.sender) (travel_at run frame)
   pub arrives : endings_of (travel_at run frame) ≡ arrivals times
@@ -69,7 +70,7 @@ pub record ListenersAreServed : Type 0 where
 -- its way to each listener, and that of the other station is served
 pub record BabblersAreContained : Type 0 where
   pub certified : IsCertified crossed crossed_rows
-  pub legal : IsLegal crossed crossed_babbler
+  pub legal : IsIdeal crossed crossed_babbler
   pub babbles : ¬ KeepsBuckets crossed (releases_of crossed_babbler) (talker_of crossed 1)
   pub not_served : ¬ IsServed crossed_rows (sender_at crossed 1) (travel_at crossed_babbler 23)
   pub served : IsServedAt crossed crossed_rows crossed_babbler 0 (27104000 ∷ [])
@@ -106,7 +107,7 @@ IsLateServed listener = IsServedOn rows_of_no_stay (sender_at tree_and_flow 0) l
 -- keeps its buckets a frame is served at the listener before that bridge, and at none behind it
 pub record StayCounts : Type 0 where
   pub alone : BreaksAlone frames_may_stay tree_and_flow rows_of_no_stay
-  pub legal : IsLegal tree_and_flow late_in_tree
+  pub legal : IsIdeal tree_and_flow late_in_tree
   pub keeps : KeepsBuckets tree_and_flow (releases_of late_in_tree) (talker_of tree_and_flow 0)
   pub before : IsLateServed 1
   pub not_behind : All (λ listener. ¬ IsLateServed listener) (0 ∷ 2 ∷ 3 ∷ [])

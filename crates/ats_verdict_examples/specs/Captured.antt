@@ -49,6 +49,10 @@ abbrev pub back_to_start : List Record
 back_to_start =
     captured 700 2001 (Some (1, 5)) ∷ record { nanos = 999999999; octets = 64; identity = Some (1, 5) } ∷ []
 
+-- a record of no stream, one of the stream, and one of it that is too late: its number is among all records
+abbrev pub late_third : List Record
+late_third = captured 0 100 None ∷ until 100000000000001
+
 -- what they come to one after another is what all of them come to
 pub record CapturesAreMet : Type 0 where
   pub talker : traffic_of identified 0 four ≡ Ok at_talker
@@ -57,6 +61,8 @@ pub record CapturesAreMet : Type 0 where
   pub listener_counted : counted_unless identified 1 four ≡ Ok at_listener
   pub over : traffic_of identified 0 (until 100000000000001) ≡ Err (Limit 2)
   pub over_counted : counted_unless identified 0 (until 100000000000001) ≡ Err (Limit 2)
+  pub over_behind : traffic_of identified 0 late_third ≡ Err (Limit 3)
+  pub over_behind_counted : counted_unless identified 0 late_third ≡ Err (Limit 3)
   pub last : traffic_of identified 0 (until 100000000000000) ≡ Ok (record {
     releases = release 0 0 64 ∷ release 100000000000000000 0 64 ∷ [];
     records = 2;

@@ -63,7 +63,14 @@ document = record {
   format = Three;
   stations = record { name = codes "s1" } ∷ record { name = codes "s2" } ∷ record { name = codes "s3" } ∷ [];
   bridges =
-      record { name = codes "b1"; processing_min_ns = 1000; processing_max_ns = 1000; residence_ns = 1000000 } ∷ [];
+      record {
+        name = codes "b1";
+        processing_min_ns = 1000;
+        processing_max_ns = 1000;
+        residence_ns = 1000000;
+        clock_ppm = 0;
+        clock_step_ps = 0;
+      } ∷ [];
   links =
       record { a = codes "s1"; b = codes "b1"; mbps = 1000; propagation_ns = 500 }
       ∷ record { a = codes "b1"; b = codes "s2"; mbps = 1000; propagation_ns = 500 }
