@@ -101,18 +101,26 @@ class Row(NamedTuple):
     bound: int | None
 
 
-def node_tables(bridges, fmt, stations):
-    """The tables of the nodes; a bridge is its least and its greatest processing and its residence, in nanoseconds."""
+def clock_text(clock):
+    """The lines that declare a clock: its deviation and its step, each of which may be None."""
+    named = zip(("clock_ppm", "clock_step_ps"), clock)
+    return "".join(f"\n{key} = {number}" for key, number in named if number is not None)
+
+
+def node_tables(bridges, fmt, stations, clocks):
+    """The tables of the nodes; a bridge is its least and its greatest processing and its residence, in nanoseconds.
+    Some may have clocks, by name."""
     yield f"format = {fmt}"
     yield from (f'[[station]]\nname = "{name}"' for name in stations)
     for name, (least, most, residence) in bridges.items():
         times = f"processing_min_ns = {least}\nprocessing_max_ns = {most}" if fmt > 1 else f"processing_ns = {most}"
-        yield f'[[bridge]]\nname = "{name}"\n{times}\nresidence_ns = {residence}'
+        clock = clock_text(clocks.get(name, ()))
+        yield f'[[bridge]]\nname = "{name}"\n{times}\nresidence_ns = {residence}{clock}'
 
 
-def topology_text(fmt, stations, bridges, links):
+def topology_text(fmt, stations, bridges, links, clocks=None):
     """The text of a network file as far as its links, each of which has two ends, a rate and a propagation."""
-    tables = list(node_tables(bridges, fmt, stations))
+    tables = list(node_tables(bridges, fmt, stations, clocks or {}))
     for a, b, mbps, propagation in links:
         tables.append(f'[[link]]\na = "{a}"\nb = "{b}"\nmbps = {mbps}\npropagation_ns = {propagation}')
     return "\n".join(tables) + "\n"
@@ -323,18 +331,24 @@ class Network:
     FORMATS = (1, 2)
     LONG, LONG_BRIDGES, OF_EACH_PORT = 0.15, (17, 24, 40), 0.3
 
+    # The share of networks of format 3 whose bridges have clocks, and what these may deviate and step. No rule of this
+    # file reckons with a clock: there are some only where what is due is worked out elsewhere.
+    CLOCKED, DEVIATIONS, STEPS = 0, (1, 20, 100, 1000), (1, 8000, 200_000, 10_000_000)
+
     def __init__(self, draw):
         self.draw, self.fmt, count = draw, draw.choice(self.FORMATS), draw.choice(self.BRIDGES)
         self.is_long = self.fmt > 2 and draw.random() < self.LONG
         count = draw.choice(self.LONG_BRIDGES) if self.is_long else count
         self.stations = [f"s{i}" for i in range(4 if self.is_long else count + draw.choice(self.MORE_STATIONS))]
         self.bridges = {f"b{i}": self.bridge() for i in range(count)}
+        has_clocks = self.fmt > 2 and self.CLOCKED and draw.random() < self.CLOCKED
+        self.clocks = {name: self.clock() for name in self.bridges} if has_clocks else {}
         self.nodes, self.of_each = [*self.stations, *self.bridges], []
         places = (0, count - 1, 1, count // 2) if self.is_long else range(len(self.stations))
         ends = [(name, f"b{i % count}") for i, name in zip(places, self.stations)]
         ends += trunk("line" if self.is_long else draw.choice(("line", "tree", "ring")), count)
         links = [(a, b, draw.choice(self.RATES), draw.choice(self.PROPAGATIONS)) for a, b in ends]
-        self.text = topology_text(self.fmt, self.stations, self.bridges, links)
+        self.text = topology_text(self.fmt, self.stations, self.bridges, links, self.clocks)
         self.ports = ports_of(self.bridges, links)
 
     def bridge(self):
@@ -342,6 +356,12 @@ class Network:
         most = self.draw.choice(self.PROCESSING)
         least = self.draw.choice((0, most // 2, most)) if self.fmt > 1 else most
         return least, most, self.draw.choice(self.RESIDENCES)
+
+    def clock(self):
+        """The deviation and the step of a bridge's clock: none, one of them or both."""
+        draw, ranges = self.draw, (self.DEVIATIONS, self.STEPS)
+        deviation, step = (draw.choice((*of, draw.randint(0, of[-1]))) for of in ranges)
+        return draw.choice(((None, None), (deviation, None), (None, step), (deviation, step), (deviation, step)))
 
     def walk(self, ends):
         """The path of a sender between two nodes."""

@@ -279,15 +279,19 @@ LISTENERS, TREES = 1022, 64
 TREE_FRAMES = MAX_PORTS // (LISTENERS + 1)
 
 
-def hub(streams, grows=True):
+# What a bridge has whose clock deviates and steps.
+CLOCK = "clock_ppm = 100\nclock_step_ps = 8000\n"
+
+
+def hub(streams, grows=True, clock=""):
     """A maker of a bridge with as many stations as there may be, and of streams from the first one to all others, or of
-    a share of these where that is asked for."""
+    a share of these where that is asked for. The bridge has this clock."""
     names = [f"s{k}" for k in range(LISTENERS + 1)]
     to = ", ".join(f'"{name}"' for name in names[1:])
 
     def lines(share):
         yield 'format = 3\n[[bridge]]\nname = "b"\nprocessing_min_ns = 1000\nprocessing_max_ns = 1000\n'
-        yield "residence_ns = 1000000000\n"
+        yield "residence_ns = 1000000000\n" + clock
         for name in names:
             yield f'[[station]]\nname = "{name}"\n[[link]]\na = "{name}"\nb = "b"\nmbps = 1000\npropagation_ns = 500\n'
         for k in range(streams // share):
@@ -306,9 +310,9 @@ LONG_PORTS = 64
 NEIGHBOURS = 1022
 
 
-def long_route(streams, grows=True, octets=64):
+def long_route(streams, grows=True, octets=64, clock=""):
     """A maker of a line of 63 bridges with streams from end to end, each of which has 64 ports, or with a share of them
-    where that is asked for."""
+    where that is asked for. Each bridge has this clock."""
     nodes = ["t"] + [f"b{k}" for k in range(LONG_PORTS - 1)] + ["u"]
     ends = f'from = "{nodes[0]}"\nto = "{nodes[-1]}"\n'
 
@@ -316,7 +320,7 @@ def long_route(streams, grows=True, octets=64):
         yield f'format = 3\n[[station]]\nname = "{nodes[0]}"\n[[station]]\nname = "{nodes[-1]}"\n'
         for name in nodes[1:-1]:
             yield f'[[bridge]]\nname = "{name}"\nprocessing_min_ns = 1000\nprocessing_max_ns = 1000\n'
-            yield "residence_ns = 1000000000\n"
+            yield "residence_ns = 1000000000\n" + clock
         for a, b in zip(nodes, nodes[1:]):
             yield f'[[link]]\na = "{a}"\nb = "{b}"\nmbps = 1000\npropagation_ns = 500\n'
         for k in range(streams // share):
@@ -326,15 +330,16 @@ def long_route(streams, grows=True, octets=64):
     return lambda share: write_lines("n.toml", lines(share if grows else 1))
 
 
-def neighbours(streams, flows):
-    """A maker of a line of bridges alone, with so many tables for streams, and for flows, at each of its ports."""
+def neighbours(streams, flows, clock=""):
+    """A maker of a line of bridges alone, with so many tables for streams, and for flows, at each of its ports. Each
+    bridge has this clock."""
 
     def lines(share):
         bridges = NEIGHBOURS // share + 2
         yield "format = 3\n"
         for k in range(bridges):
             yield f'[[bridge]]\nname = "b{k}"\nprocessing_min_ns = 1000\nprocessing_max_ns = 1000\n'
-            yield "residence_ns = 1000000000\n"
+            yield "residence_ns = 1000000000\n" + clock
         for k in range(bridges - 1):
             yield f'[[link]]\na = "b{k}"\nb = "b{k + 1}"\nmbps = 1000\npropagation_ns = 500\n'
         for k in range(streams):

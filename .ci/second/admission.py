@@ -4,6 +4,7 @@ from dataclasses import replace
 from typing import NamedTuple
 
 from second.bounds import least_certificate, sum_to
+from second.clocks import is_overrated
 from second.common import MOST_BYTES, MOST_PORTS, Fault, Refusal, is_name, lines_of, lines_that_speak, number
 from second.networks import MOST, Sender, stream_fault
 
@@ -103,7 +104,7 @@ def answer(network, request):
     if any(it.name == request.name for it in network.senders):
         return network, [f"denied {request.name} name-taken"]
     ports = sum(len(stream.ports) for stream in [*network.streams, request.stream])
-    if len(network.streams) == MOST["stream"] or ports > MOST_PORTS:
+    if len(network.streams) == MOST["stream"] or ports > MOST_PORTS or is_overrated(network, request.stream):
         return network, [f"denied {request.name} limit"]
     if request.is_open:
         return answer_open(network, request.stream)

@@ -3,6 +3,7 @@
 
 from typing import NamedTuple
 
+from second.clocks import committed
 from second.common import MOST_BYTES, SECOND, Fault, Refusal, number, quotient_up, wire_bits
 from second.tables import rows_of
 
@@ -34,9 +35,10 @@ def sums_at(network, place):
     """What the senders make of a port and class: `higher`, `equal`, `bursts`, `lower` and `least` of its row."""
     port, traffic_class = network.ports[place[0]], place[1]
     users = network.users[place[0]]
-    higher = port.ps_per_bit * sum(sender.rate for sender, own in users if own > traffic_class)
-    equal = port.ps_per_bit * sum(sender.rate for sender, own in users if own == traffic_class)
-    bursts = sum(sender.burst for sender, own in users if own >= traffic_class)
+    kept = [(*committed(network, sender, port.number), own) for sender, own in users]
+    higher = port.ps_per_bit * sum(rate for rate, _, own in kept if own > traffic_class)
+    equal = port.ps_per_bit * sum(rate for rate, _, own in kept if own == traffic_class)
+    bursts = sum(burst for _, burst, own in kept if own >= traffic_class)
     lower = max((wire_bits(sender.greatest) for sender, own in users if own < traffic_class), default=0)
     least = min(wire_bits(sender.least) for sender, own in users if own == traffic_class)
     return higher, equal, bursts, lower, least
@@ -79,16 +81,21 @@ def need_of(network, row):
     return row.wait + network.ports[row.port].spread
 
 
+def stay_of(network, row):
+    """How long that may be by the clock of the bridge behind the port."""
+    return network.topology.clock_of(network.ports[row.port].leads_to).need_by(need_of(network, row))
+
+
 def is_over(network, row):
     """Whether a row asks for a longer stay than the bridge behind its port allows."""
     residence = network.ports[row.port].residence
-    return residence is not None and need_of(network, row) > residence
+    return residence is not None and stay_of(network, row) > residence
 
 
 def overstay_of(network, rows):
     """The first row whose wait is too long for the bridge behind its port, as it is told, or None."""
     row = next((row for row in rows.values() if is_over(network, row)), None)
-    return row and f"residence {written(network, row[:2])} {need_of(network, row)}"
+    return row and f"residence {written(network, row[:2])} {stay_of(network, row)}"
 
 
 def sum_to(stream, leg, rows):
@@ -212,7 +219,7 @@ def parts_text(network, row):
     lower, bursts, frame = (port.ps_per_bit * bits for bits in (row.lower, row.bursts - row.least, row.least))
     text = f"hop {written(network, row[:2])} lower {lower} {lower_name(network, row)} bursts {bursts}"
     text += f" higher {row.wait - lower - bursts} frame {frame} latency {port.latency} bound {row.bound}"
-    return text if port.residence is None else f"{text} stay {need_of(network, row)} of {port.residence}"
+    return text if port.residence is None else f"{text} stay {stay_of(network, row)} of {port.residence}"
 
 
 def margin_text(slack):
@@ -223,7 +230,7 @@ def margin_text(slack):
 def load_text(network, at):
     """What `explain` prints of the load of a port."""
     port = network.ports[at]
-    rates = sum(sender.rate for sender, _ in network.users[at])
+    rates = sum(committed(network, sender, at)[0] for sender, _ in network.users[at])
     return f"port {port.name} load {port.ps_per_bit * rates}"
 
 

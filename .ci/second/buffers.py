@@ -2,25 +2,28 @@
 most in a run, and what `buffers` prints."""
 
 from second.bounds import need_of, refusal_of, written
+from second.clocks import committed
 from second.common import SECOND, Refusal
 from second.runs import Run
 
 
 def windows_of(network, rows, stream):
-    """Each hop of a stream with the time within which those of its frames that are together at the port became eligible
-    at the port before, or here where this is the first."""
+    """Each hop of a stream with the port at which its frames were eligible before, this one where it is the first, and
+    the time within which those that are together here became eligible there."""
     for place, hop in enumerate(stream.hops):
         row, before = rows[hop], stream.before.get(place)
         way = 0 if before is None else need_of(network, rows[stream.hops[before]])
-        yield hop, row.wait + network.ports[row.port].ps_per_bit * row.least + way
+        window = row.wait + network.ports[row.port].ps_per_bit * row.least + way
+        yield hop, stream.ports[place if before is None else before], window
 
 
 def buffers_of(network, rows):
     """The bits of each row's buffer, by port and class."""
     buffers = dict.fromkeys(rows, 0)
     for stream in network.streams:
-        for hop, window in windows_of(network, rows, stream):
-            buffers[hop] += stream.burst + stream.rate * window // SECOND
+        for hop, number, window in windows_of(network, rows, stream):
+            rate, burst = committed(network, stream, number)
+            buffers[hop] += burst + rate * window // SECOND
     return buffers
 
 

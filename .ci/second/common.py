@@ -7,6 +7,7 @@ LAST_RELEASE = 10**17  # picoseconds
 MOST_FRAMES = 200_000
 MOST_PORTS = 65_536  # of all streams of a network together
 MOST_HOPS = 3_200_000  # ports of all frames of a run together
+MOST_RATE = 10**11
 MOST_BURST = 10**9
 MOST_BYTES = 16_777_216
 NUMBER = re.compile("0|[1-9][0-9]{0,35}")
@@ -57,7 +58,7 @@ def first_of(cases):
 def rules_of_stream(rate, burst, least, greatest):
     """The rules of a declared stream on its numbers alone, each with whether it is broken, in their order."""
     return [
-        ("bad-rate", not 1 <= rate <= 100_000_000_000),
+        ("bad-rate", not 1 <= rate <= MOST_RATE),
         ("bad-sizes", not 64 <= least <= greatest <= 2000),
         ("burst-below-frame", burst < wire_bits(greatest)),
         ("limit", burst > MOST_BURST),

@@ -10,6 +10,7 @@ from collections import Counter
 from dataclasses import dataclass, field
 from functools import cached_property, lru_cache
 
+from second.clocks import MOST_DEVIATION, MOST_STEP, Clock, committed, is_overrated, scheduled
 from second.common import MOST_BYTES, MOST_PORTS, Fault, Unjudged, first_of, is_name, rules_of_stream
 
 MBPS = (10, 100, 1000, 2500, 5000, 10000, 25000, 40000, 50000, 100000)
@@ -28,18 +29,23 @@ KEYS = {
     "link_local": "name class rate_bps burst_bits min_octets max_octets deadline_ns".split(),
     "link_local_flow": ["name", "max_octets"],
 }
+CLOCK = ("clock_ppm", "clock_step_ps")
 BRIDGES = {
     1: ["name", "processing_ns", "residence_ns"],
     2: ["name", "processing_min_ns", "processing_max_ns", "residence_ns"],
 }
-BRIDGES[3] = BRIDGES[2]
+BRIDGES[3] = [*BRIDGES[2], *CLOCK]
+MAY_BE_ABSENT = ("classes", "deadline_ns", "paths", *CLOCK)
 PARTNER = {"from": "to", "to": "from", "address": "vlan", "vlan": "address"}
-NARROW = ("processing_ns", "processing_min_ns", "processing_max_ns", "residence_ns", "mbps", "propagation_ns")
+NARROW = (
+    "processing_ns", "processing_min_ns", "processing_max_ns", "residence_ns", "mbps", "propagation_ns", *CLOCK
+)  # fmt: skip
 ADDRESS = re.compile("[0-9A-Fa-f]{2}(?::[0-9A-Fa-f]{2}){5}")
 NEWER = re.compile(r"\\[ex]|\{|(?<![:\w])\d\d:\d\d(?![:\w])")
 MOST_NESTED = 80
 LONGEST = {1: 16, 2: 16, 3: 64}  # the most links of a route, by the format
 MOST_DEADLINE = 10**9  # nanoseconds
+IDEAL = Clock()
 
 
 @dataclass(frozen=True)
@@ -138,13 +144,24 @@ class Sender:
 
 @dataclass
 class Topology:
-    """Stations, bridges in their order, the ports between nodes, and the nodes at which routes may begin and end."""
+    """Stations, bridges in their order, the ports between nodes, the nodes at which routes may begin and end, and the
+    clocks of the bridges."""
 
     stations: set
     bridges: list
     ports: list
     ends: set
+    clocks: dict  # of the bridges, by name
     distances: dict = field(default_factory=dict)
+
+    @cached_property
+    def is_ideal(self):
+        """Whether each clock is ideal."""
+        return not any(any(clock) for clock in self.clocks.values())
+
+    def clock_of(self, node):
+        """The clock of a node; that of a station is ideal."""
+        return self.clocks.get(node, IDEAL)
 
     @cached_property
     def between(self):
@@ -323,7 +340,7 @@ def is_of_kind(key, table, entry, has_routes):
 
 def is_missing(key, table, entry, keys):
     """Whether a key has to stand in a table and does not."""
-    if key in entry or key in ("classes", "deadline_ns", "paths") or table == "top" and key != "format":
+    if key in entry or key in MAY_BE_ABSENT or table == "top" and key != "format":
         return False
     if key in PARTNER:
         return PARTNER[key] in entry
@@ -389,6 +406,16 @@ def processing_of(bridge):
     return (bridge["processing_min_ns"], bridge["processing_max_ns"]) if one is None else (one, one)
 
 
+def clock_of(bridge):
+    """The clock of a bridge."""
+    return Clock(bridge.get("clock_ppm", 0), bridge.get("clock_step_ps", 0))
+
+
+def is_over_clock(clock):
+    """Whether a number of a clock is over its limit."""
+    return clock.deviation > MOST_DEVIATION or clock.step > MOST_STEP
+
+
 def judge_topology(stations, bridges, links):
     """Names the first fault of nodes and links, if there is one."""
     nodes = [node["name"] for node in (*stations, *bridges)]
@@ -402,6 +429,7 @@ def judge_topology(stations, bridges, links):
         ("bad-rate", place_of(link["mbps"] not in MBPS for link in links)),
         ("limit", place_of(link["propagation_ns"] > 10**6 for link in links)),
         ("limit", place_of(processing_of(it)[1] > 10**6 or it["residence_ns"] > 10**9 for it in bridges)),
+        ("limit", place_of(is_over_clock(clock_of(it)) for it in bridges)),
         ("bad-processing", place_of(processing_of(it)[0] > processing_of(it)[1] for it in bridges)),
     ]
     fault, place = next(((fault, place) for fault, place in places if place), (None, None))
@@ -425,7 +453,8 @@ def topology_of(tree):
         ports.append(Port(len(ports), leaves, leads_to, 10**6 // link["mbps"], *latencies, stay))
     names = {node["name"] for node in stations}
     ends = names | set(times) if tree["format"] == 3 else names
-    return Topology(names, [node["name"] for node in bridges], ports, ends)
+    clocks = {it["name"]: clock_of(it) for it in bridges}
+    return Topology(names, [node["name"] for node in bridges], ports, ends, clocks)
 
 
 def route_between(topology, start, end):
@@ -493,7 +522,10 @@ def stream_of(topology, entry, longest):
     identity = (int(entry["address"].replace(":", ""), 16), entry["vlan"]) if "address" in entry else None
     numbers = (entry[key] for key in ("min_octets", "max_octets", "rate_bps", "burst_bits"))
     sender = Sender(entry["name"], ports, classes, *numbers, 1000 * deadline, identity, branches)
-    return sender, stream_fault(ports, given, sender, deadline, longest)
+    fault = stream_fault(ports, given, sender, deadline, longest)
+    if fault is None and is_overrated(Network(topology, [], [], longest), sender):
+        fault = "limit"
+    return sender, fault
 
 
 def flow_of(topology, entry, longest):
@@ -529,7 +561,7 @@ def senders_of(topology, entries, names, read, longest):
         if sender.identity in identities:
             raise Fault(f"identity-twice {count}")
         total += len(sender.ports)
-        if total > MOST_PORTS and not sender.is_flow:
+        if not sender.is_flow and total > MOST_PORTS:
             raise Fault(f"limit {table}")
         names.add(sender.name)
         identities |= {sender.identity} - {None}
@@ -564,10 +596,31 @@ def sender_text(network, kind, sender):
         yield f"{first} {network.called(sender, leg)} {','.join(map(str, classes))} {ports}"
 
 
+def rates_text(network, stream):
+    """What `show` prints of the rates and bursts of a stream: at each port what its scheduler has behind the port
+    before, and what the port sees; at one of the talker just this, if it is not what is declared. There is no line
+    where all are as declared."""
+    declared, found = (stream.rate, stream.burst), []
+    for place, number in enumerate(stream.ports):
+        seen = committed(network, stream, number)
+        if place in stream.before:
+            found += [scheduled(network, stream, stream.ports[stream.before[place]]), seen]
+        elif seen != declared:
+            found.append(seen)
+    if any(pair != declared for pair in found):
+        yield " ".join(["rates", stream.name, *(f"{rate}:{burst}" for rate, burst in found)])
+
+
+def stream_text(network, stream):
+    """What `show` prints of a stream."""
+    yield from sender_text(network, "stream", stream)
+    yield from rates_text(network, stream)
+
+
 def shown(network):
     """What `show` prints."""
     streams, flows = network.streams, network.flows
     yield from map(port_text, network.ports)
-    yield from (line for it in streams for line in sender_text(network, "stream", it))
+    yield from (line for it in streams for line in stream_text(network, it))
     yield from (line for it in flows for line in sender_text(network, "flow", it))
     yield f"total ports {len(network.ports)} streams {len(streams)} flows {len(flows)}"

@@ -1,10 +1,12 @@
 """The run of releases on a network in one order: a loop over moments at which a frame comes to a node, or a port looks
 for a frame. By the rules of ports, links and groups and the key and wait of the order there is just one such run."""
 
+from dataclasses import replace
 from heapq import heapify, heappop, heappush
 from itertools import chain
 from typing import Callable, NamedTuple
 
+from second.clocks import scheduled
 from second.common import wire_bits
 from second.groups import ELIGIBLE, LATE, SIZE, Group, is_declared_size
 
@@ -68,7 +70,7 @@ class Run:
         self.network, self.releases, self.order = network, releases, order
         self.senders = network.senders
         self.ports = [Sending(port) for port in network.ports]
-        self.groups, self.crossings = {}, []
+        self.groups, self.schedulers, self.crossings = {}, {}, []
         legs = [len(self.senders[release.sender].legs) for release in releases]
         self.ends = [[None] * count for count in legs]
         self.lines = [[[] for _ in range(count)] for count in legs]
@@ -98,7 +100,16 @@ class Run:
             return (ELIGIBLE, now) if is_declared_size(sender, octets) else (SIZE, None)
         number, traffic_class = sender.hops[place]
         group = self.groups.setdefault((number, traffic_class), Group(self.network.ports[number].residence))
-        return group.judge(sender, now, octets)
+        return group.judge(self.scheduler(sender, number), now, octets)
+
+    def scheduler(self, sender, number):
+        """A stream with the rate and burst of its scheduler behind a port."""
+        if self.network.topology.is_ideal:
+            return sender
+        if (sender.name, number) not in self.schedulers:
+            rate, burst = scheduled(self.network, sender, number)
+            self.schedulers[sender.name, number] = replace(sender, rate=rate, burst=burst)
+        return self.schedulers[sender.name, number]
 
     def come(self, now, frame, place):
         """A frame comes behind the port of a place: to a listener, or to a bridge; or it is released."""

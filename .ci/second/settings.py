@@ -1,5 +1,7 @@
 """What to set in each bridge of a network: what `settings` prints."""
 
+from second.clocks import scheduled
+
 HEADER = "bridge,received_from,class,stream,rate_bps,burst_bits,max_octets,residence_ns,sent_to,class_there"
 
 
@@ -9,10 +11,10 @@ def settings_of(network):
     on among those of the sender."""
     bridges = {name: count for count, name in enumerate(network.topology.bridges)}
     for count, sender in enumerate(network.senders):
-        shaped = ("", "") if sender.is_flow else (sender.rate, sender.burst)
         for place, at in sorted(sender.before.items()):
             (number, own), (next_number, there) = sender.hops[at], sender.hops[place]
             before, after = network.ports[number], network.ports[next_number]
+            shaped = ("", "") if sender.is_flow else scheduled(network, sender, number)
             stay = "" if sender.is_flow else before.residence // 1000
             fields = before.leads_to, before.name, own, sender.name, *shaped, sender.greatest, stay, after.name, there
             yield (bridges[before.leads_to], number, own, count, place), fields

@@ -153,13 +153,19 @@ ROUNDED = (
 
 # What is asked of senders, where bounds hold.
 PROMISED = (
-    ". In a network that is as its file says no frame takes longer, as long as the talker of its stream keeps the "
-    "rates, bursts and sizes that are declared for what it sends{}. Nothing is asked of others: they may send what "
-    "they like"
+    ". In a network that is as its file says, and whose bridges' clocks {}, no frame takes longer, as long as the "
+    "talker of its stream keeps the rates, bursts and sizes that are declared for what it sends{}. Nothing is asked of "
+    "others: they may send what they like"
 )
 
 # The same of bridges, where some send frames of their own.
 OF_BRIDGES = ", and each bridge on the way those of its own frames"
+
+# What is asked of the clocks of bridges, and what is told where they change the rates of streams.
+OF_CLOCKS = "keep what it declares of them"
+OF_TRUE_TIME = "show true time, as it declares none"
+CHANGED = " Rates and bursts are those that the file declares; by the clocks of bridges those of some streams grow on "
+CHANGED += "their way, as the lines <code>rates</code> of <code>show</code> have it."
 
 # What is missing where Python does not read the file.
 NO_FILE = " Rates and bursts stand in the file, which Python could not read here."
@@ -176,11 +182,13 @@ def streams_head(model):
 def streams_part(model, order):
     """The table of all streams."""
     note = "The worst-case delay of a stream is the sum of the bounds of all hops on its way"
-    note += PROMISED.format(OF_BRIDGES if model.bridges_talk() else "") if model.rows else ""
+    clocks = OF_CLOCKS if model.declared.clocks or not model.declared.known else OF_TRUE_TIME
+    note += PROMISED.format(clocks, OF_BRIDGES if model.bridges_talk() else "") if model.rows else ""
     note += ". Used is the share of the deadline that this is. Streams with the least left stand first."
     if model.is_forked():
         note += " Each listener has a row, a further one with its node behind the name of the stream."
     note += f" Rates and bursts count for each frame {WIRE}." if model.declared.known else NO_FILE
+    note += CHANGED if model.declared.known and model.shown.rates else ""
     if any(map(model.is_without_deadline, order)):
         note += " Where the file gives no deadline, one second holds."
     note = f'<p class="note">{note}</p><p class="note">{ROUNDED}</p>{left_out(model, order)}'

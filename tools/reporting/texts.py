@@ -73,6 +73,7 @@ class Shown(NamedTuple):
     ports: dict
     streams: list
     flows: list
+    rates: list
 
 
 class Explained(NamedTuple):
@@ -89,21 +90,25 @@ OF_EACH_PORT = {"stream": "link_local", "flow": "link_local_flow"}
 
 class Declared(NamedTuple):
     """What the network's file says that no text repeats: which nodes are bridges, and the tables of senders by name,
-    also of those that a table for each port stands for. `known` is false where Python does not read the file."""
+    also of those that a table for each port stands for. `known` is false where Python does not read the file, and
+    `clocks` is true where some bridge declares a clock that is not ideal."""
 
     bridges: set
     tables: dict
     known: bool
+    clocks: bool
 
 
 def shown_of(lines):
     """What the lines of `show` say."""
-    found = Shown({}, [], [])
+    found = Shown({}, [], [], [])
     for words in map(str.split, lines):
         if words[0] == "port":
             start, end = words[2].split(">")
             numbers = [int(word) for word in words[3:]]
             found.ports[words[2]] = Port(int(words[1]), words[2], start, end, *numbers[:2], numbers[-1])
+        elif words[0] == "rates":
+            found.rates.append(words[1])
         elif words[0] in ("stream", "flow", "listener"):
             far = words.pop(2) if words[0] == "listener" else ""
             route = Route(words[1], far, tuple(map(int, words[2].split(","))), tuple(words[3:]))
@@ -176,9 +181,10 @@ def declared_in(raw):
         tables = tomllib.loads(raw.decode("utf-8-sig"))
         bridges = {it["name"] for it in tables.get("bridge", [])}
         senders = {it["name"]: it for kind in OF_EACH_PORT for it in senders_in(tables, kind)}
+        clocks = any(it.get(key) for it in tables.get("bridge", []) for key in ("clock_ppm", "clock_step_ps"))
     except (ValueError, KeyError, TypeError, RecursionError):
-        return Declared(set(), {}, False)
-    return Declared(bridges, senders, True)
+        return Declared(set(), {}, False, False)
+    return Declared(bridges, senders, True, clocks)
 
 
 def bridges_by_links(ports):
