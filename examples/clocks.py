@@ -5,6 +5,8 @@ The numbers say by how many parts in a million the clocks of bridges deviate, an
 count; then the same of the talkers, by whose clocks the rates and bursts of NET are kept. A bridge that sends frames of
 its own is a talker of these. Where bridges can only be set to multiples of a rate and of a burst, these follow. With NET
 behind the numbers, it is the network file that is printed, with the rates and bursts that bounds have to be asked for.
+Where NET declares clocks, its settings have them already: then the numbers of the bridges are 0 0, no steps follow, and
+what bridges begin stays as it is, which they keep by the clocks declared.
 
 Usage: ats settings NET | python3 clocks.py PPM STEP TALKER_PPM TALKER_STEP [RATE_STEP BURST_STEP] [NET]
 From Python 3.11 on."""
@@ -62,9 +64,11 @@ def declared(path, settings_of, clock, talker, steps):
     each port, whose frames go on nowhere, those that its talkers keep in true time."""
     with open(path, encoding="utf-8") as file:
         text = file.read()
-    last = []
+    last, bridges = [], bridges_with_clocks(text)
+    if bridges and (any(clock) or max(steps) > 1):
+        sys.exit(f"{path} declares clocks of bridges, and its settings have them: give 0 0 for these, and no steps")
     for kind, it in rated(text):
-        kept = in_true_time(it["rate_bps"], it["burst_bits"], *talker)
+        kept = in_true_time(it["rate_bps"], it["burst_bits"], *((0, 0) if talker_of(it) in bridges else talker))
         own = settings_of.get(it["name"], []) if kind == "stream" else []
         last.append(change(own, kept, clock, steps))
     for key, values in zip(("rate_bps", "burst_bits"), zip(*last)):
@@ -79,6 +83,19 @@ def rated(text):
     """The tables of a network file that have a rate, each with its kind, in the order in which the kinds begin."""
     tables = tomllib.loads(text)
     return [(kind, it) for kind in tables if kind in ("stream", "link_local") for it in tables[kind]]
+
+
+def bridges_with_clocks(text):
+    """The names of the bridges of a network file, if one of them declares a clock that is not ideal."""
+    bridges = tomllib.loads(text).get("bridge", [])
+    is_declared = any(it.get(key) for it in bridges for key in ("clock_ppm", "clock_step_ps"))
+    return {it["name"] for it in bridges} if is_declared else set()
+
+
+def talker_of(table):
+    """The node at which a stream begins; none of a table for each port, whose talkers are stations and bridges."""
+    paths = table.get("paths") or [table.get("path") or [table.get("from")]]
+    return paths[0][0]
 
 
 def clock_of(ppm, step):

@@ -10,11 +10,11 @@ use Rattle.ats_facts.proofs.Pairs.{AllPairs-permutation}
 use Rattle.ats_topology.specs.Port.{no_port, port_at}
 use Rattle.ats_topology.proofs.Rules.{ports_are_lawful}
 use Rattle.ats_network.specs.Network.{DeclaredNetwork, IsNetwork}
-use Rattle.ats_port_rule.specs.PortRule.{AreApart, KeepsPortRule}
+use Rattle.ats_port_rule.specs.PortRule.{AreApart, KeepsPortRuleBy}
 use Rattle.ats_port_rule.specs.Transmission.{Transmission}
 use Rattle.ats_trace.specs.Journey.{Travel}
 use Rattle.ats_trace.specs.Projections.{sent_by}
-use Rattle.ats_trace.specs.Run.{IsLegal}
+use Rattle.ats_trace.specs.Clocks.{IsLegal}
 use Rattle.ats_port_capture.specs.Capture.{AreInOrder, capture_of}
 use Rattle.ats_port_capture_law.specs.Laws.{CaptureIsOne}
 use Rattle.ats_port_capture_law.proofs.Members.{IsReadable, each_readable, none_sent}
@@ -37,8 +37,9 @@ start_apart ps x y some xb yb xe ye apart same =
     by (inr second) a b = omega (arith, second, b, ye, same)
 
 -- so do those of a port that keeps the port rule
-rule_apart : (ps : ℕ) (run : List Travel) (sent : List Transmission) → 1 ≤ ps → All (IsReadable run) sent
-    → KeepsPortRule ps sent → AllPairs StartApart sent
+rule_apart : {told : Transmission → ℕ} (ps : ℕ) (run : List Travel) (sent : List Transmission) → 1 ≤ ps → All
+    (IsReadable run) sent
+    → KeepsPortRuleBy told ps sent → AllPairs StartApart sent
 rule_apart ps run sent some each rule i j d before within =
     start_apart ps (get_or sent i d) (get_or sent j d) some (each i d (omega arith)).bits (each j d within).bits
     (rule.takes i d (omega arith)) (rule.takes j d within) (rule.apart i j d before within)

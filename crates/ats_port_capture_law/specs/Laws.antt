@@ -2,7 +2,7 @@ use Rattle.std.specs.Prelude.{◌≡◌, ℕ, ◌≤◌, List, length, map, All,
 use Rattle.ats_network.specs.Network.{DeclaredNetwork, IsNetwork}
 use Rattle.ats_port_rule.specs.Transmission.{Transmission}
 use Rattle.ats_trace.specs.Journey.{IsJourney, Travel}
-use Rattle.ats_trace.specs.Run.{IsLegal}
+use Rattle.ats_trace.specs.Clocks.{IsLegal}
 use Rattle.ats_trace.specs.declared.run.TheConstants.{MAX_FRAMES}
 use Rattle.ats_pcap.specs.Capture.{records_of}
 use Rattle.ats_pcap.specs.Reading.{Reading, StandsFor, ending_of}
