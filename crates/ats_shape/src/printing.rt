@@ -10,12 +10,15 @@ use ats_group::Verdict;
 use itoa::{Buffer, Integer};
 use std::alloc::{AllocError, Global};
 
+// The bytes of room that are taken for a line: the longest has 100, with a name of 32.
+const LINE_BYTES: usize = 100;
+
 /// A line for each frame with its verdict, then a line of totals.
 pub fn report(alloc: Global, shape: &Shape, verdicts: &[Verdict]) -> Result<Vec<u8>, AllocError>
     requires { length verdicts.now ≡ length shape.now.frames }
     ensures { IfOk result (λ text. text.items ≡ report_on shape.now verdicts.now) }
 {
-    let mut out = Vec::new(alloc);
+    let mut out = Vec::with_capacity(alloc, LINE_BYTES * shape.frames().len())?;
     write_frames(&mut out, shape.streams(), shape.frames(), verdicts)?;
     write_totals(&mut out, verdicts)?;
     Ok(out)
