@@ -18,3 +18,4 @@ pub mod EdgeProofs
 pub mod WithinTickProofs
 pub mod RateTextProofs
 pub mod FileLimitProofs
+pub mod IdealProofs

@@ -16,3 +16,4 @@ pub mod Narrowed
 pub mod WithinTicks
 pub mod RateTexts
 pub mod FileLimits
+pub mod IdealClocks

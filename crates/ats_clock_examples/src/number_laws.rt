@@ -2,6 +2,7 @@
 //! another way is another.
 
 ghost use Rattle.ats_clock_examples.specs.ClockEdges.{ClocksAreAtTheirEdges};
+ghost use Rattle.ats_clock_examples.specs.IdealClocks.{IdealClocksAreShown};
 ghost use Rattle.ats_clock_examples.specs.Limits.{LimitsAreAtEachHop};
 ghost use Rattle.ats_clock_examples.specs.Narrowed.{NarrowedKeepsClocks};
 ghost use Rattle.ats_clock_examples.specs.Needs.{NeedsAreRounded};
@@ -44,4 +45,10 @@ pub fn clocks_are_at_their_edges()
 /// Where `lrq bound` and `lrq check` narrow the bursts of a network, its clocks stay as they are.
 pub fn narrowed_keeps_clocks()
     ensures { NarrowedKeepsClocks }
+{}
+
+/// Which networks have ideal clocks: those whose bridges declare neither a deviation nor a step, whatever else they
+/// declare and whatever they send, and none with a bridge that declares one.
+pub fn ideal_clocks_are_shown()
+    ensures { IdealClocksAreShown }
 {}
