@@ -11,3 +11,5 @@ pub mod Meant
 pub mod JustOne
 pub mod Concluded
 pub mod Replied
+pub mod FormatClocks
+pub mod Networks

@@ -83,6 +83,10 @@ nothing_less_is_meant = record {
     regulated = λ shape conforms stream below. conforms stream below;
   };
   files = record {
+    goes_on = λ told faults old new. (
+      λ goes. (goes.holds, goes.counts),
+      λ goes. record { holds = goes.0; counts = goes.1 },
+    );
     risen = λ told command old new rose. rose;
     reached = reached;
     calm = λ command old new. (

@@ -9,3 +9,4 @@ pub mod Meant
 pub mod JustOne
 pub mod Concluded
 pub mod Replied
+pub mod Networks

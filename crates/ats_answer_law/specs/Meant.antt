@@ -2,7 +2,7 @@ use Rattle.std.specs.Prelude.{◌≡◌, ◌↔◌, ℕ, ◌<◌, ◌≤◌, Lis
 use Rattle.std.specs.Prelude.{slice_get}
 use Rattle.std.specs.declared.alloc.Global.{Global}
 use Rattle.ats_num.specs.Wire.{bits_of}
-use Rattle.ats_io.specs.Outside.{Rose}
+use Rattle.ats_io.specs.Outside.{Continues, Rose}
 use Rattle.ats_bucket.specs.Conforming.{Conforms}
 use Rattle.ats_streams.specs.Traffic.{is_declared_size}
 use Rattle.ats_group.specs.Group.{Offer}
@@ -132,10 +132,13 @@ pub record BridgesAreMeant : Type 0 where
       → Conforms (declared_in shape.streams stream).rate (bits_of (declared_in shape.streams stream).max_octets)
       (passed_by lrq_judge (declared_in shape.streams) shape.residence_ns (map offer_of shape.frames) stream)
 
--- of files and words: a fault came at a file that the command comes to, and that its words name; all is calm exactly
--- where no count of a file that they name rose, whatever it was before; and the words of the program are those of the
--- command table, byte for byte
+-- of files and words: the outside, whose states have numbers here, goes on exactly where it tells the same under each
+-- name, and no count of faults fell, of whichever name; a fault came at a file that the command comes to, and that its
+-- words name; all is calm exactly where no count of a file that they name rose, whatever it was before; and the words
+-- of the program are those of the command table, byte for byte
 pub record FilesAreMeant : Type 0 where
+  pub goes_on : (told : ℕ → Told) (faults : ℕ → List ℕ → ℕ) (old new : ℕ) → Continues told faults old new
+      ↔ ((told new ≡ told old) × ((name : List ℕ) → faults old name ≤ faults new name))
   pub risen : (told : Told) (command : Command) (old new : List ℕ → ℕ) → ReadRose told command old new
       → (name : List ℕ) × Reaches told command name × Rose (old name) (new name)
   pub reached : (told : Told) (command : Command) (name : List ℕ) → Reaches told command name

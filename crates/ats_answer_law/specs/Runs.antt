@@ -1,8 +1,14 @@
 use Rattle.std.specs.Prelude.{◌≡◌, ℕ, ◌<◌, ◌≤◌, List, length, Some, slice_index}
+use Rattle.ats_topology.specs.Port.{port_at}
+use Rattle.ats_network.specs.Bridges.{IsBridgeAt}
+use Rattle.ats_network.specs.Class.{class_at, port_before}
 use Rattle.ats_network.specs.Network.{DeclaredNetwork}
+use Rattle.ats_network.specs.Senders.{sender_at}
 use Rattle.ats_trace.specs.Journey.{Travel}
-use Rattle.ats_trace.specs.Run.{IsRunBy}
+use Rattle.ats_trace.specs.Run.{IsRunBy, releases_of}
+use Rattle.ats_trace.specs.Talker.{talker_of, KeepsBuckets}
 use Rattle.ats_trace.specs.declared.journey.Release.{Release}
+use Rattle.ats_certificate.specs.declared.row.Row.{Row}
 use Rattle.ats_buffer.specs.Buffer.{buffers_of}
 use Rattle.ats_buffer.specs.Occupancy.{occupancy, row_at}
 use Rattle.ats_buffer_text.specs.Text.{buffers_text}
@@ -17,6 +23,7 @@ use Rattle.ats_command_due.specs.Generated.{IsReport}
 use Rattle.ats_command_due.specs.Held.{Held, IsHeldRun}
 use Rattle.ats_command_due.specs.Recorded.{IsRecordedRun}
 use Rattle.ats_command_due.specs.Replayed.{IsReplay}
+use Rattle.ats_command_law.specs.BufferMeaning.{ArePeaksOf}
 
 -- What the runs are whose texts are due: those by the order that is asked for.
 
@@ -48,7 +55,10 @@ pub record IsHeldMost (network : DeclaredNetwork) (run : List Travel) (port clas
   pub held : occupancy network run port class time ≡ peak
   pub no_more : (other : ℕ) → occupancy network run port class other ≤ peak
 
--- the text of `buffers` with a schedule gives each row's buffer, and behind it the most that was held in the run
+-- the text of `buffers` with a schedule gives each row's buffer, and behind it the most that was held in the run. That
+-- is at most the buffer where in the run, for each stream that has the row's class at its port, the talker keeps its
+-- buckets, and so do the bridges that this port, or the port before it on the stream's way, leaves, as is written out
+-- here: nothing is asked of other bridges
 pub record PeaksAreHeld : Type 0 where
   pub most : (order : Order) (h : Held) (text : List ℕ) (run : List Travel) (peaks : List ℕ)
       → IsHeldRun order h text run peaks → (n : ℕ) → n < length h.rows
@@ -56,3 +66,18 @@ pub record PeaksAreHeld : Type 0 where
   pub written : (order : Order) (h : Held) (text : List ℕ) (run : List Travel) (peaks : List ℕ)
       → IsHeldRun order h text run peaks
       → text ≡ buffers_text h.network.topology h.rows (buffers_of h.network h.rows) (Some peaks)
+  pub fit : (net certificate schedule net_bytes certificate_bytes schedule_bytes : List ℕ) (order : Order)
+      (text : List ℕ) (network : DeclaredNetwork) (rows : List Row) (releases : List Release) (run : List Travel)
+      (peaks : List ℕ)
+      → ArePeaksOf net certificate schedule net_bytes certificate_bytes schedule_bytes order text network rows releases
+      run peaks
+      → (n : ℕ) → n < length rows
+      → ((i : ℕ) → i < length network.streams
+      → class_at (sender_at network i) (row_at rows n).port ≡ (row_at rows n).class
+      → KeepsBuckets network (releases_of run) (talker_of network i)
+      × (IsBridgeAt network.topology (port_at network.topology.ports (row_at rows n).port).from
+      → KeepsBuckets network (releases_of run) (port_at network.topology.ports (row_at rows n).port).from)
+      × ((q : ℕ) → port_before (sender_at network i) (row_at rows n).port ≡ Some q
+      → IsBridgeAt network.topology (port_at network.topology.ports q).from
+      → KeepsBuckets network (releases_of run) (port_at network.topology.ports q).from))
+      → slice_index peaks n ≤ slice_index (buffers_of network rows) n

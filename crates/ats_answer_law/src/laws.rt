@@ -10,6 +10,7 @@ ghost use Rattle.ats_answer_law.specs.Due.{WordsAreDue};
 ghost use Rattle.ats_answer_law.specs.Faults.{FaultsAreTold};
 ghost use Rattle.ats_answer_law.specs.JustOne.{JustOneIsLeft};
 ghost use Rattle.ats_answer_law.specs.Meant.{NothingLessIsMeant};
+ghost use Rattle.ats_answer_law.specs.Networks.{NetworksAreMeant};
 ghost use Rattle.ats_answer_law.specs.NoneMade.{NoneAreMadeForFaults};
 ghost use Rattle.ats_answer_law.specs.Reached.{LaterFilesWait};
 ghost use Rattle.ats_answer_law.specs.Replied.{RepliesAreMeant};
@@ -188,7 +189,8 @@ pub fn runs_keep_their_order()
 {}
 
 /// What `buffers` prints as a row's peak was held of the row's class at its port at some time of the run, and more at
-/// none; it stands behind the row's buffer.
+/// none; it stands behind the row's buffer. It is at most this buffer where the talkers of that class at that port keep
+/// their buckets, and the bridges that the port, or the port before it on their streams' ways, leaves.
 pub fn peaks_are_held()
     ensures { PeaksAreHeld }
 {}
@@ -214,8 +216,9 @@ pub fn none_are_made_for_faults()
 
 /// What the words come to in which the laws of `ats_command_law` say what follows: of delays, each frame is served and
 /// in time whose own talker and bridges keep their buckets, and so for all, for the least bounds, and for each worst
-/// delay; of bridges, how much room there is, and what those judge alike that are set alike. And a fault came at a file
-/// that the words of the command name, and all is calm exactly where none came at these.
+/// delay; of bridges, how much room there is, and what those judge alike that are set alike. And the outside goes on
+/// where what it tells stays and no count of faults falls, a fault came at a file that the words of the command name,
+/// and all is calm exactly where none came at these.
 pub fn nothing_less_is_meant()
     ensures { NothingLessIsMeant }
 {}
@@ -239,4 +242,11 @@ pub fn conclusions_are_meant()
 /// bytes of its file, part by part; and which of them never come.
 pub fn replies_are_meant()
     ensures { RepliesAreMeant }
+{}
+
+/// What words come to that say what a network is: where routes begin at stations, and where they also end there; where
+/// all clocks are ideal, as in files of formats 1 and 2; and of each network the limits on its numbers, and that no two
+/// streams have one identity.
+pub fn networks_are_meant()
+    ensures { NetworksAreMeant }
 {}
