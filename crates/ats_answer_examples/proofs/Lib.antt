@@ -7,3 +7,4 @@ pub mod WordsNone
 pub mod ConclusionsShown
 pub mod TextsShown
 pub mod RepliesShown
+pub mod PremisesShown

@@ -4,3 +4,4 @@ pub mod Words
 pub mod Concluded
 pub mod Printed
 pub mod Replied
+pub mod Premises

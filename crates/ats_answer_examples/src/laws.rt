@@ -1,6 +1,7 @@
 //! Worked calls: the bytes of their files, and the answers that are due.
 
 ghost use Rattle.ats_answer_examples.specs.Concluded.{ConclusionsAreShown};
+ghost use Rattle.ats_answer_examples.specs.Premises.{PremisesAreShown};
 ghost use Rattle.ats_answer_examples.specs.Printed.{TextsAreShown};
 ghost use Rattle.ats_answer_examples.specs.Regulated.{LrqBoundIsAnswered, LrqCheckIsAnswered, LrqShapeIsAnswered};
 ghost use Rattle.ats_answer_examples.specs.Replied.{RepliesAreShown};
@@ -62,4 +63,10 @@ pub fn texts_are_shown()
 /// The same of the answers to requests, by the network before each and the one after it.
 pub fn replies_are_shown()
     ensures { RepliesAreShown }
+{}
+
+/// What words say that laws have as premises: of which nodes it is asked that they keep their buckets in true time, and
+/// which routes begin at stations, or join them.
+pub fn premises_are_shown()
+    ensures { PremisesAreShown }
 {}
