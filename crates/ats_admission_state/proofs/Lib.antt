@@ -14,3 +14,5 @@ pub mod Nearby
 pub mod Lateness
 pub mod Judgements
 pub mod Opened
+pub mod Spared
+pub mod Apart

@@ -1,11 +1,10 @@
 -- The late routes that are looked at, port by port along a path.
-use Rattle.std.proofs.Common.{◌≡◌, ℕ, ◌+◌, ◌-◌, ◌/◌, ◌<◌, ◌≤◌, Bool, true, false, List, [], length, get_or, take}
+use Rattle.std.proofs.Common.{◌≡◌, ℕ, ◌+◌, ◌<◌, ◌≤◌, true, false, List, [], length, get_or, take}
 use Rattle.std.proofs.Common.{Option, None, refl, sym, ap, ◌∙◌, ◌⊎◌, inl, inr, eqb, arith}
-use Rattle.std.specs.Prelude.{◌||◌}
 use Rattle.std.specs.List.{list_any}
 use Rattle.std.specs.Option.{ForSome}
 use Rattle.std.proofs.lemmas.Bool.{eq-eqb, eqb-true, or_cases, true≢false}
-use Rattle.std.proofs.lemmas.List.{get_or-map, length-map, take_all}
+use Rattle.std.proofs.lemmas.List.{length-map, take_all}
 use Rattle.std.proofs.lemmas.List.Folds.{list_any_at, list_any_more, list_any_none}
 use Rattle.std.proofs.lemmas.Option.{none-some}
 use Rattle.ats_class_table.specs.Table.{Table}
@@ -40,27 +39,6 @@ meets_more path hop port route within at met =
         inr (list_any_at (λ p. eqb p port) (ports_along route) k d h
         (eq-eqb (get_or (ports_along route) k d) port
         (sym (at ∙ eqb-true (get_or path hop 0) (get_or (ports_along route) k d) here))))
-
--- a route that comes from the port before a hop has a port before it
-pub comes_met : (path : List ℕ) (hop own : ℕ) (route : RouteState) → hop < length path → 1 ≤ hop → 1 ≤ own
-    → own < length route.places → get_or route.places (own - 1) 0 / 8 ≡ get_or path (hop - 1) 0
-    → meets (take hop path) route ≡ true
-comes_met path hop own route within some from inside same =
-    list_any_at (λ p. has_port p (take hop path)) (ports_along route) (own - 1) 0
-    (omega (arith, length-map route.places (λ (place : ℕ). place / 8)))
-    (let port : get_or (ports_along route) (own - 1) 0 ≡ get_or path (hop - 1) 0 =
-    get_or-map (λ (place : ℕ). place / 8) route.places (own - 1) 0 0 (omega arith) ∙ same in
-    let next : hop - 1 + 1 ≡ hop = omega arith in
-    ap (λ (p : ℕ). has_port p (take hop path)) port
-    ∙ ap (λ (k : ℕ). has_port (get_or path (hop - 1) 0) (take k path)) (sym next)
-    ∙ list_any_more (λ q. eqb q (get_or path (hop - 1) 0)) path (hop - 1) 0 (omega arith)
-    ∙ or_true (has_port (get_or path (hop - 1) 0) (take (hop - 1) path))
-    (eqb (get_or path (hop - 1) 0) (get_or path (hop - 1) 0))
-    (eq-eqb (get_or path (hop - 1) 0) (get_or path (hop - 1) 0) refl))
-  where
-    or_true : (a b : Bool) → b ≡ true → (a || b) ≡ true
-    or_true true b e = refl
-    or_true false b e = e
 
 module _ (bounds : Table ℕ) (routes : List RouteState) where
   abbrev route : ℕ → RouteState
@@ -106,47 +84,28 @@ module _ (bounds : Table ℕ) (routes : List RouteState) where
       by (inl before) = inl before
       by (inr here) = inr (eqb-true (get_or users rank 0) n here)
 
-  module _ (path users : List ℕ) (rank number : ℕ) (within : rank < length users) (is : number ≡ get_or users rank 0)
+  -- the next user is looked at
+  pub looked_at : (path users : List ℕ) (rank number : ℕ) (found more : Option ℕ) → rank < length users
+      → number ≡ get_or users rank 0 → LooksAt bounds routes number found more → IsLooked path users rank found
+      → IsLooked path users (rank + 1) more
+  looked_at path users rank number found more within is looks before = record {
+    late = looks.late before.late;
+    none_before = λ n inside below. by n inside below;
+  }
     where
-      -- a user that has a port of the path was looked at
-      pub looked_passed : (found : Option ℕ) → meets path (route number) ≡ true → IsLooked path users rank found
-          → IsLooked path users (rank + 1) found
-      looked_passed found met before = record { late = before.late; none_before = λ n inside below. by n inside below }
-        where
-          next : (n : ℕ) → n < length routes → is_below n found ≡ true
-              → (list_any (λ q. eqb q n) (take rank users) ≡ true) ⊎ (get_or users rank 0 ≡ n)
-              → is_late bounds (route n) ≡ false
-          next n inside below (inl listed) = before.none_before n inside below (inr listed)
-          next n inside below (inr same) =
-              before.none_before n inside below (inl (ap (λ (k : ℕ). meets path (route k)) (sym (is ∙ same)) ∙ met))
+      next : (n : ℕ) → n < length routes → is_below n more ≡ true
+          → (list_any (λ q. eqb q n) (take rank users) ≡ true) ⊎ (get_or users rank 0 ≡ n)
+          → is_late bounds (route n) ≡ false
+      next n inside below (inl listed) = before.none_before n inside (looks.below n below) (inr listed)
+      next n inside below (inr same) =
+          ap (λ (k : ℕ). is_late bounds (route k)) (sym (is ∙ same))
+          ∙ looks.own (ap (λ (k : ℕ). is_below k more) (is ∙ same) ∙ below)
 
-          by : (n : ℕ) → n < length routes → is_below n found ≡ true
-              → (meets path (route n) ≡ true) ⊎ (list_any (λ q. eqb q n) (take (rank + 1) users) ≡ true)
-              → is_late bounds (route n) ≡ false
-          by n inside below (inl on) = before.none_before n inside below (inl on)
-          by n inside below (inr listed) = next n inside below (next_user users rank n within listed)
-
-      -- another one is looked at
-      pub looked_at : (found more : Option ℕ) → LooksAt bounds routes number found more
-          → IsLooked path users rank found → IsLooked path users (rank + 1) more
-      looked_at found more looks before = record {
-        late = looks.late before.late;
-        none_before = λ n inside below. by n inside below;
-      }
-        where
-          next : (n : ℕ) → n < length routes → is_below n more ≡ true
-              → (list_any (λ q. eqb q n) (take rank users) ≡ true) ⊎ (get_or users rank 0 ≡ n)
-              → is_late bounds (route n) ≡ false
-          next n inside below (inl listed) = before.none_before n inside (looks.below n below) (inr listed)
-          next n inside below (inr same) =
-              ap (λ (k : ℕ). is_late bounds (route k)) (sym (is ∙ same))
-              ∙ looks.own (ap (λ (k : ℕ). is_below k more) (is ∙ same) ∙ below)
-
-          by : (n : ℕ) → n < length routes → is_below n more ≡ true
-              → (meets path (route n) ≡ true) ⊎ (list_any (λ q. eqb q n) (take (rank + 1) users) ≡ true)
-              → is_late bounds (route n) ≡ false
-          by n inside below (inl on) = before.none_before n inside (looks.below n below) (inl on)
-          by n inside below (inr listed) = next n inside below (next_user users rank n within listed)
+      by : (n : ℕ) → n < length routes → is_below n more ≡ true
+          → (meets path (route n) ≡ true) ⊎ (list_any (λ q. eqb q n) (take (rank + 1) users) ≡ true)
+          → is_late bounds (route n) ≡ false
+      by n inside below (inl on) = before.none_before n inside (looks.below n below) (inl on)
+      by n inside below (inr listed) = next n inside below (next_user users rank n within listed)
 
   -- where all users of a port were looked at, all routes were that have it
   pub looked_all : (path : List ℕ) (hop port rank : ℕ) (found : Option ℕ) → hop < length path

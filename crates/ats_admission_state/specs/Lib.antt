@@ -3,3 +3,4 @@ pub mod Judged
 pub mod Routes
 pub mod Judging
 pub mod Laws
+pub mod Spares

@@ -25,7 +25,7 @@ use std::marker::Model;
 
 /// What is kept of a network that streams enter and leave: which streams use each port, what the senders of each class
 /// make there, the least bound of each port and class, in picoseconds, and the route of each stream. Contracts see
-/// these four.
+/// these four. Besides each route has a spare, so that most are not summed up to see that they are not late.
 #[derive(Drop)]
 pub struct Kept {
     alloc: Global,
@@ -33,14 +33,18 @@ pub struct Kept {
     shares: PortShares,
     bounds: PortClassTable<u128>,
     routes: Vec<Route>,
+    spares: Vec<u64>,
 }
 
 impl Model for Kept {
     ghost use Rattle.ats_admission_state.specs.Kept.{KeptState, kept_state};
+    ghost use Rattle.ats_admission_state.specs.Spares.{AreSpares};
 
     ghost Value = { KeptState };
 
     ghost view = { λ k. kept_state k.streams k.shares k.bounds k.routes.items };
+
+    ghost invariant = { λ k. AreSpares k.bounds k.routes.items k.spares.items };
 }
 
 impl Kept {
@@ -58,12 +62,14 @@ impl Kept {
         let shares = PortShares::new(alloc, network)?;
         let routes = stream_routes(alloc, network)?;
         let bounds = certified_bounds(alloc, network, certificate)?;
+        let spares = vec![in alloc; 0u64; routes.len()]?;
         Ok(Kept {
             alloc,
             streams,
             shares,
             bounds,
             routes,
+            spares,
         })
     }
 
@@ -88,6 +94,7 @@ impl Kept {
         let own = Route::of(self.alloc, &network.streams()[stream as usize])?;
         let judged = judge_stream(
             &mut self.bounds,
+            &mut self.spares,
             network,
             &self.streams,
             &self.shares,
@@ -103,6 +110,7 @@ impl Kept {
             &mut self.streams,
             &mut self.shares,
             &mut self.routes,
+            &mut self.spares,
             network,
             stream,
             own,
@@ -121,11 +129,19 @@ impl Kept {
             &mut self.streams,
             &mut self.shares,
             &mut self.routes,
+            &mut self.spares,
             network,
             number,
             stream,
         );
-        renew_path(&mut self.bounds, network, &self.shares, stream.ports());
+        renew_path(
+            &mut self.bounds,
+            &mut self.spares,
+            network,
+            &self.streams,
+            &self.shares,
+            stream.ports(),
+        );
     }
 
     /// Makes the bounds along a path anew, where no certificate is refused for the network. It takes no memory.
@@ -135,6 +151,13 @@ impl Kept {
         requires beside { IsKeptBeside network.now path.now self.old }
         ensures { IsKept network.now self.new }
     {
-        renew_path(&mut self.bounds, network, &self.shares, path);
+        renew_path(
+            &mut self.bounds,
+            &mut self.spares,
+            network,
+            &self.streams,
+            &self.shares,
+            path,
+        );
     }
 }

@@ -8,6 +8,7 @@ pub mod laws;
 mod opening;
 mod ports;
 pub mod routes;
+mod spares;
 mod sums;
 mod walks;
 

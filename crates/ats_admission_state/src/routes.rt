@@ -1,7 +1,6 @@
 //! Routes: of a stream, where its bounds stand along the way to each listener, and its deadline.
 
-ghost use Rattle.std.specs.Prelude.{◌≡◌, ◌+◌, ◌-◌, ◌*◌, ◌/◌, ◌^◌, ◌<◌, ◌≤◌, ◌==◌, ◌&&◌, not, [], length, take, sum_by};
-ghost use Rattle.std.specs.Prelude.{slice_index_or, All, IfOk};
+ghost use Rattle.std.specs.Prelude.{◌≡◌, ◌+◌, ◌-◌, ◌*◌, ◌^◌, ◌<◌, ◌≤◌, ◌==◌, min, [], length, take, sum_by, All, IfOk};
 ghost use Rattle.std.specs.List.{slice_range};
 ghost use Rattle.ats_streams.specs.Branches.{AreBranches, first_from, leg_at, legs_of, routes_of};
 ghost use Rattle.ats_streams.specs.Path.{IsPath};
@@ -9,6 +8,7 @@ ghost use Rattle.ats_streams.specs.declared.path.TheConstants.{MAX_PORTS};
 ghost use Rattle.ats_streams.specs.Stream.{IsClass, IsStream};
 ghost use Rattle.ats_admission_state.specs.Routes.{AreBounded, IsBounded, bound_of, is_late, places_along, route_of};
 ghost use Rattle.ats_admission_state.specs.Routes.{HasRoom, IsRoute, held_state, sum_along};
+ghost use Rattle.ats_admission_state.specs.Spares.{IsSpare};
 
 use ats_class_table::PortClassTable;
 use ats_num::Ps;
@@ -118,14 +118,11 @@ impl Route {
         }
     }
 
-    // The place of each port.
-    fn places(&self) -> &[u16]
-        ensures { result.now ≡ self.now.places }
+    // The deadline.
+    fn deadline(&self) -> Ps
+        ensures { result.0 ≡ self.now.deadline }
     {
-        match &self.held.tree {
-            None => &self.held.places[..self.held.count as usize],
-            Some(tree) => tree.places.as_slice(),
-        }
+        self.held.deadline
     }
 
     /// The sum of the bounds along the route to the listener of a leg, counted from 0.
@@ -140,30 +137,31 @@ impl Route {
         }
     }
 
-    /// Whether for some listener it is over the deadline.
-    pub(crate) fn is_late(&self, bounds: &PortClassTable<u128>) -> bool
+    /// The spare of the route by these bounds: one more than how far the greatest sum for a listener is below the
+    /// deadline, and 0 where it is over it.
+    pub(crate) fn spare(&self, bounds: &PortClassTable<u128>) -> u64
         requires { AreBounded bounds.now self.now }
-        ensures { result ≡ is_late bounds.now self.now }
+        ensures late { is_late bounds.now self.now ≡ (result == 0) }
+        ensures spare { IsSpare bounds.now self.now result }
     {
+        let mut spare = u64::MAX;
         for leg in 0..self.legs() {
-            if u128::from(self.held.deadline.0) < self.sum(bounds, leg) {
-                return true;
+            let below = spare_below(self.deadline(), self.sum(bounds, leg));
+            if below == 0 {
+                return 0;
             }
+            spare = spare.min(below);
         }
-        false
+        spare
     }
+}
 
-    /// Whether the port before this hop, in the order of the stream's ports, is the given one.
-    pub(crate) fn comes_from(&self, port: u32, hop: usize) -> bool
-        requires { hop < length self.now.places }
-        ensures { result ≡ (not (hop == 0) && slice_index_or self.now.places (hop - 1) 0 / 8 == port) }
-    {
-        if hop == 0 {
-            return false;
-        }
-        let places = self.places();
-        u32::from(places[hop - 1]) / 8 == port
-    }
+// One more than how far a sum is below a deadline, and 0 where it is over it.
+fn spare_below(deadline: Ps, sum: u128) -> u64
+    ensures { result ≡ min (deadline.0 + 1 - sum) (2 ^ 64 - 1) }
+{
+    let below = (u128::from(deadline.0) + 1).saturating_sub(sum);
+    below.min(u128::from(u64::MAX)) as u64
 }
 
 // The ports of a stream with one listener: at most 64.

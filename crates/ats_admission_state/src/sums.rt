@@ -12,6 +12,7 @@ ghost use Rattle.ats_tally.specs.Reason.{late_for};
 ghost use Rattle.ats_admission_state.specs.Judged.{sum_at};
 ghost use Rattle.ats_admission_state.specs.Kept.{AreLeast};
 ghost use Rattle.ats_admission_state.specs.Routes.{route_of, routes_of};
+ghost use Rattle.ats_admission_state.specs.Spares.{AreSpares};
 
 use crate::late::find_late;
 use crate::routes::Route;
@@ -22,9 +23,10 @@ use ats_tally::{Reason, listener_name};
 
 /// The sum of the bounds of a network's last stream for its first listener; without the stream a certificate holds. As
 /// the error, the stream with the lowest number that uses a port of its own and whose sum for some listener is over its
-/// deadline. The users and the routes are those of the other streams.
+/// deadline. The users, the routes and their spares are those of the other streams.
 pub(crate) fn judge_sums(
     bounds: &PortClassTable<u128>,
+    spares: &mut [u64],
     network: &Network,
     users: &PortUsers,
     routes: &[Route],
@@ -38,11 +40,13 @@ pub(crate) fn judge_sums(
     requires routes { routes.now ≡ routes_of (without_at network.now stream) }
     requires own { own.now ≡ route_of (stream_at network.now stream) }
     requires least { AreLeast network.now bounds.now }
-    ensures { result ≡ unless (λ reason. reason) (late_near network.now (stream_at network.now stream))
+    requires spares { AreSpares bounds.now routes.now spares.old }
+    ensures answer { result ≡ unless (λ reason. reason) (late_near network.now (stream_at network.now stream))
         (sum_at network.now stream) }
+    ensures spares { AreSpares bounds.now routes.now spares.new }
 {
     let path = network.streams()[stream as usize].ports();
-    match find_late(bounds, routes, users, path) {
+    match find_late(bounds, spares, routes, users, path) {
         Some(number) => judge_route(bounds, network, number, &routes[number as usize]),
         None => judge_route(bounds, network, stream, own),
     }

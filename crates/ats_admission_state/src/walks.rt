@@ -1,7 +1,7 @@
 //! Walks along a path from port to port.
 
 ghost use Rattle.std.specs.Prelude.{◌≡◌, ◌+◌, ◌<◌, ◌≤◌, length, All, None, IfNone, OnOk};
-ghost use Rattle.ats_network.specs.Network.{senders_of};
+ghost use Rattle.ats_network.specs.Network.{IsNetwork, senders_of};
 ghost use Rattle.ats_certificate.specs.PortSums.{senders_at};
 ghost use Rattle.ats_bound.specs.Reason.{overload, reason_of};
 ghost use Rattle.ats_admission_law.specs.Lowest.{found_at, lower_of};
@@ -13,9 +13,11 @@ ghost use Rattle.ats_admission_state.specs.Judged.{judged};
 ghost use Rattle.ats_admission_state.specs.Judging.{KeepsOthers, SetsBelow, found_on};
 ghost use Rattle.ats_admission_state.specs.Kept.{AreLeast, AreLeastBeside, KeepsStreams};
 ghost use Rattle.ats_admission_state.specs.Routes.{route_of};
+ghost use Rattle.ats_admission_state.specs.Spares.{AreSpares, AreUsers, KeepSpares};
 
 use crate::ports::{judge_port, renew_port};
 use crate::routes::Route;
+use crate::spares::{bounds_at, keep_spares};
 use crate::sums::judge_sums;
 use ats_admission_shares::PortShares;
 use ats_admission_users::PortUsers;
@@ -31,10 +33,13 @@ struct Found {
     stay: Option<(u32, Reason)>,
 }
 
-/// Makes the bounds along a path anew, where no certificate is refused for the network.
+/// Makes the bounds along a path anew, where no certificate is refused for the network, and keeps the spares of the
+/// routes that have these users. The network keeps its rules.
 pub(crate) fn renew_path(
     bounds: &mut PortClassTable<u128>,
+    spares: &mut [u64],
     network: &Network,
+    users: &PortUsers,
     shares: &PortShares,
     path: &[u32],
 )
@@ -42,18 +47,26 @@ pub(crate) fn renew_path(
     requires ports { All (λ p. p < length network.now.topology.ports) path.now }
     requires shares { AreSharesOf network.now shares.now }
     requires beside { AreLeastBeside network.now path.now bounds.old }
-    ensures { AreLeast network.now bounds.new }
+    requires lists { length users.now.lists ≡ length network.now.topology.ports }
+    requires users { AreUsers (length spares.old) users.now }
+    ensures rules { IsNetwork network.now }
+    ensures least { AreLeast network.now bounds.new }
+    ensures spares { KeepSpares users.now bounds.old bounds.new spares.old spares.new }
 {
+    let _ = network.streams(); // by these the network keeps its rules
     for port in path {
+        let before = bounds_at(bounds, *port);
         renew_port(bounds, network, *port, &shares.tallies(network, *port));
+        keep_spares(spares, bounds, users, *port, &before);
     }
 }
 
-/// Judges a network by its last stream, without which a certificate holds. The users, the shares and the routes are
-/// those of the network without it, and its own route is given. The sum of the stream's least bounds, or the reason
-/// against the network exactly where there is one.
+/// Judges a network by its last stream, without which a certificate holds. The users, the shares, the routes and their
+/// spares are those of the network without it, and its own route is given. The sum of the stream's least bounds, or the
+/// reason against the network exactly where there is one.
 pub(crate) fn judge_stream(
     bounds: &mut PortClassTable<u128>,
+    spares: &mut [u64],
     network: &Network,
     streams: &PortUsers,
     shares: &PortShares,
@@ -66,22 +79,27 @@ pub(crate) fn judge_stream(
     requires free { reason_of (without_at network.now stream) ≡ None }
     requires keeps { KeepsStreams (without_at network.now stream) streams.now shares.now routes.now }
     requires beside { AreLeastBeside network.now (stream_at network.now stream).ports bounds.old }
+    requires spares { AreSpares bounds.old routes.now spares.old }
     ensures answer { result ≡ judged network.now stream }
     ensures ok { OnOk result (AreLeast network.now bounds.new) }
     ensures beside { AreLeastBeside network.now (stream_at network.now stream).ports bounds.new }
+    ensures spares { AreSpares bounds.new routes.now spares.new }
 {
     let path = network.streams()[stream as usize].ports();
-    if let Some(reason) = judge_path(bounds, network, shares, stream, path) {
+    if let Some(reason) = judge_path(bounds, spares, network, streams, shares, stream, path) {
         return Err(reason);
     }
-    judge_sums(bounds, network, streams, routes, stream, own)
+    judge_sums(bounds, spares, network, streams, routes, stream, own)
 }
 
-// Makes the bounds along the ports of the stream with this number anew, unless a class is overloaded there. What is
-// found first at the lowest port: an overload, or else a need of residence over the residence time behind the port.
+// Makes the bounds along the ports of the stream with this number anew, unless a class is overloaded there, and keeps
+// the spares of the routes that have these users. What is found first at the lowest port: an overload, or else a need
+// of residence over the residence time behind the port.
 fn judge_path(
     bounds: &mut PortClassTable<u128>,
+    spares: &mut [u64],
     network: &Network,
+    users: &PortUsers,
     shares: &PortShares,
     stream: u32,
     path: &[u32],
@@ -92,9 +110,12 @@ fn judge_path(
     requires ports { All (λ p. p < length network.now.topology.ports) path.now }
     requires shares { AreSharesOf (without_at network.now stream) shares.now }
     requires beside { AreLeastBeside network.now path.now bounds.old }
+    requires lists { length users.now.lists ≡ length network.now.topology.ports }
+    requires users { AreUsers (length spares.old) users.now }
     ensures found { result ≡ found_on network.now path.now }
     ensures none { IfNone result (AreLeast network.now bounds.new) }
     ensures beside { AreLeastBeside network.now path.now bounds.new }
+    ensures spares { KeepSpares users.now bounds.old bounds.new spares.old spares.new }
 {
     let mut found = Found {
         load: None,
@@ -102,7 +123,9 @@ fn judge_path(
     };
     for (hop, port) in path.iter().enumerate() {
         let tallies = shares.tallies_with(network, stream, hop as u32);
+        let before = bounds_at(bounds, *port);
         found = judge_next(bounds, network, *port, &tallies, found);
+        keep_spares(spares, bounds, users, *port, &before);
     }
     match found.load {
         Some(lowest) => Some(lowest.1),

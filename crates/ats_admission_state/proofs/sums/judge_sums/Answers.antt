@@ -62,7 +62,8 @@ bounds-routes-number c =
     c.streams.ensures.value c.index-streams-stream.is c.ports-path.ensures.value in
     let is : late.IsLate network n c.requires.last rules bounds c.requires.least c.in-Some.number =
     late.is_found network n c.requires.last rules bounds c.requires.least c.in-Some.number c.args.routes.now
-    c.ports-path.result.now c.find_late.result c.requires.free c.requires.routes own c.find_late.ensures c.in-Some.is in
+    c.ports-path.result.now c.find_late.result c.requires.free c.requires.routes own c.find_late.ensures.found
+    c.in-Some.is in
     let long : length c.args.routes.now ≡ length (without_at network n).streams =
     ap (λ (routes : List RouteState). length routes) c.requires.routes
     ∙ length-map (without_at network n).streams route_of in
@@ -79,7 +80,8 @@ judge_route-requires-clause-route c =
     c.streams.ensures.value c.index-streams-stream.is c.ports-path.ensures.value in
     let is : late.IsLate network n c.requires.last rules bounds c.requires.least c.in-Some.number =
     late.is_found network n c.requires.last rules bounds c.requires.least c.in-Some.number c.args.routes.now
-    c.ports-path.result.now c.find_late.result c.requires.free c.requires.routes own c.find_late.ensures c.in-Some.is in
+    c.ports-path.result.now c.find_late.result c.requires.free c.requires.routes own c.find_late.ensures.found
+    c.in-Some.is in
     late.route_read network n c.requires.last rules bounds c.requires.least c.in-Some.number
     c.args.routes.now c.index-routes-number.result is.within c.requires.routes c.index-routes-number.is
 
@@ -94,11 +96,12 @@ judge_route-requires-clause-stream c =
     c.streams.ensures.value c.index-streams-stream.is c.ports-path.ensures.value in
     let is : late.IsLate network n c.requires.last rules bounds c.requires.least c.in-Some.number =
     late.is_found network n c.requires.last rules bounds c.requires.least c.in-Some.number c.args.routes.now
-    c.ports-path.result.now c.find_late.result c.requires.free c.requires.routes own c.find_late.ensures c.in-Some.is in
+    c.ports-path.result.now c.find_late.result c.requires.free c.requires.routes own c.find_late.ensures.found
+    c.in-Some.is in
     omega (arith, is.within, c.requires.last)
 
-pub returns-in-Some : goal.returns-in-Some
-returns-in-Some c =
+pub returns-in-Some-clause-answer : goal.returns-in-Some-clause-answer
+returns-in-Some-clause-answer c =
     let network : DeclaredNetwork = c.args.network.now in
     let n : ℕ = c.args.stream in
     let bounds : Table ℕ = c.args.bounds.now in
@@ -108,12 +111,13 @@ returns-in-Some c =
     c.streams.ensures.value c.index-streams-stream.is c.ports-path.ensures.value in
     let is : late.IsLate network n c.requires.last rules bounds c.requires.least c.in-Some.number =
     late.is_found network n c.requires.last rules bounds c.requires.least c.in-Some.number c.args.routes.now
-    c.ports-path.result.now c.find_late.result c.requires.free c.requires.routes own c.find_late.ensures c.in-Some.is in
+    c.ports-path.result.now c.find_late.result c.requires.free c.requires.routes own c.find_late.ensures.found
+    c.in-Some.is in
     c.judge_route.ensures
     ∙ late.late_answer network n c.requires.last rules bounds c.requires.least c.in-Some.number is
 
-pub returns-in-None : goal.returns-in-None
-returns-in-None c =
+pub returns-in-None-clause-answer : goal.returns-in-None-clause-answer
+returns-in-None-clause-answer c =
     let network : DeclaredNetwork = c.args.network.now in
     let n : ℕ = c.args.stream in
     let bounds : Table ℕ = c.args.bounds.now in
@@ -124,4 +128,4 @@ returns-in-None c =
     c.judge_route-in-None.ensures
     ∙ late.own_answer network n c.requires.last rules bounds c.requires.least
     (late.none_found network n c.requires.last rules bounds c.requires.least c.args.routes.now c.ports-path.result.now
-    c.find_late.result c.requires.free c.requires.routes own c.find_late.ensures c.in-None.is)
+    c.find_late.result c.requires.free c.requires.routes own c.find_late.ensures.found c.in-None.is)

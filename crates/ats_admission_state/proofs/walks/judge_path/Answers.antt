@@ -9,7 +9,9 @@ use Rattle.ats_admission_law.specs.Near.{overstay_at}
 use Rattle.ats_admission_state.specs.Kept.{AreLeast, AreLeastBeside}
 use Rattle.ats_admission_state.proofs.Found.{fold_more, lower_none}
 use Rattle.ats_admission_state.proofs.Near.{on_own}
+use Rattle.ats_admission_state.specs.Spares.{AreUsers}
 use Rattle.ats_admission_state.proofs.Placed.{beside_kept, beside_next, beside_none}
+use Rattle.ats_admission_state.proofs.Spared.{keeps_next}
 use Rattle.ats_admission_state.proofs.walks.judge_path.Goals as goal
 
 if_none : {X : Type 0} (o : Option X) (P : Type 0) → P → IfNone o P
@@ -40,7 +42,14 @@ loop-hop-preserved c =
           (drop (i + 1) path) (c.judge_next-found.ensures.set none)
           (subst (λ (left : List ℕ). AreLeastBeside network left c.loop-hop.bounds)
           (drop_more path i 0 within) (c.loop-hop.invariant.left (earlier none)));
+      spares = keeps_next c.args.users.now c.args.bounds.now c.loop-hop.bounds c.judge_next-found.new.bounds
+          c.args.spares.now c.loop-hop.spares c.keep_spares.new.spares c.loop-hop.invariant.spares
+          (c.keep_spares.ensures c.loop-hop.bounds c.bounds_at-before.ensures c.judge_next-found.ensures.kept);
     }
+
+pub keep_spares-requires-clause-users : goal.keep_spares-requires-clause-users
+keep_spares-requires-clause-users c =
+    subst (λ (n : ℕ). AreUsers n c.args.users.now) (sym c.loop-hop.invariant.spares.count) c.requires.users
 
 pub returns-in-None-clause-none : goal.returns-in-None-clause-none
 returns-in-None-clause-none c =

@@ -3,7 +3,9 @@ use Rattle.std.specs.List.{All}
 use Rattle.ats_network.specs.Edits.{no_stream}
 use Rattle.ats_network.specs.Network.{DeclaredNetwork}
 use Rattle.ats_tally.proofs.Paths.{paths_inside}
+use Rattle.ats_admission_shares.specs.PortShares.{without_at}
 use Rattle.ats_admission_state.specs.Judging.{found_on}
+use Rattle.ats_admission_state.proofs.Apart.{many_users, users_before}
 use Rattle.ats_admission_state.proofs.Judgements.{found_err, sums_left}
 use Rattle.ats_admission_state.proofs.Last.{few_hops, path_is}
 use Rattle.ats_admission_state.proofs.walks.judge_stream.Goals as goal
@@ -47,6 +49,26 @@ returns-clause-answer c =
     let network : DeclaredNetwork = c.args.network.now in
     let own = path_is network c.streams.result.now c.args.stream c.index-streams-stream.result c.ports-path.result.now
     (omega (arith, c.requires.last)) c.streams.ensures.value c.index-streams-stream.is c.ports-path.ensures.value in
-    c.judge_sums.ensures
+    c.judge_sums.ensures.answer
     ∙ sums_left network c.args.stream c.requires.last c.streams.ensures.rules c.requires.free
     (c.in_default.ensures.found ∙ ap (found_on network) own)
+
+pub judge_path-requires-clause-lists : goal.judge_path-requires-clause-lists
+judge_path-requires-clause-lists c = c.requires.keeps.users.ports_are
+
+pub judge_path-requires-clause-users : goal.judge_path-requires-clause-users
+judge_path-requires-clause-users c =
+    many_users (without_at c.args.network.now c.args.stream) c.args.streams.now c.args.shares.now c.args.routes.now
+    c.args.spares.now c.requires.keeps c.requires.spares.count
+
+pub returns-in-Some-clause-spares : goal.returns-in-Some-clause-spares
+returns-in-Some-clause-spares c =
+    c.in-Some.ensures.spares.each c.args.routes.now
+    (users_before c.args.network.now c.args.stream c.args.streams.now c.args.shares.now c.args.routes.now
+    c.requires.last c.streams.ensures.rules c.requires.keeps) c.requires.spares
+
+pub judge_sums-requires-clause-spares : goal.judge_sums-requires-clause-spares
+judge_sums-requires-clause-spares c =
+    c.in_default.ensures.spares.each c.args.routes.now
+    (users_before c.args.network.now c.args.stream c.args.streams.now c.args.shares.now c.args.routes.now
+    c.requires.last c.streams.ensures.rules c.requires.keeps) c.requires.spares

@@ -1,4 +1,4 @@
-use Rattle.std.proofs.Common.{◌<◌, ℕ, length, Result, Ok, Err, arith, sym, subst}
+use Rattle.std.proofs.Common.{◌<◌, ℕ, List, length, Result, Ok, Err, arith, sym, subst}
 use Rattle.std.specs.Prelude.{OnErr}
 use Rattle.std.specs.List.{All}
 use Rattle.ats_class_table.specs.Table.{Table}
@@ -7,8 +7,11 @@ use Rattle.ats_network.specs.Network.{DeclaredNetwork}
 use Rattle.ats_admission_shares.specs.PortShares.{stream_at, without_at}
 use Rattle.ats_admission_state.specs.Kept.{AreLeastBeside, IsKeptBeside, KeptState}
 use Rattle.ats_admission_state.specs.Laws.{StayBeside}
+use Rattle.ats_admission_state.specs.Routes.{RouteState}
+use Rattle.ats_admission_state.specs.Spares.{AreSpares}
 use Rattle.ats_admission_state.proofs.Beside.{bounds_stay_beside}
 use Rattle.ats_admission_state.proofs.Last.{few_ports, less_by, stream_is}
+use Rattle.ats_admission_state.proofs.Spared.{written_back}
 use Rattle.ats_admission_state.proofs.kept.Kept.judge.Goals as goal
 
 -- what holds anyway holds of a failure
@@ -60,3 +63,25 @@ returns-in_err-enter-clause-err c =
       bounds = (stay network n c.judge_stream-judged.new.bounds (omega (arith, c.requires.last))).left
           c.judge_stream-judged.ensures.beside;
     })
+
+pub invariant_of-self-in_err-enter : goal.invariant_of-self-in_err-enter
+invariant_of-self-in_err-enter c =
+    let bounds : Table ℕ = c.judge_stream-judged.new.bounds in
+    let spares : List ℕ = c.judge_stream-judged.new.spares in
+    c.enter.ensures.spares bounds
+    (subst (AreSpares bounds c.self.inside.routes.items)
+    (sym (written_back c.self.inside.spares.len spares c.self.inside.spares.items
+    (omega (arith, c.judge_stream-judged.auto.spares, c.deref_mut.ensures.len))))
+    (subst (λ (routes : List RouteState). AreSpares bounds routes spares) c.deref.ensures.value
+    c.judge_stream-judged.ensures.spares))
+
+pub invariant_of-self-2 : goal.invariant_of-self-2
+invariant_of-self-2 c =
+    let bounds : Table ℕ = c.judge_stream-judged.new.bounds in
+    let spares : List ℕ = c.judge_stream-judged.new.spares in
+    c.enter.ensures.spares bounds
+    (subst (AreSpares bounds c.self.inside.routes.items)
+    (sym (written_back c.self.inside.spares.len spares c.self.inside.spares.items
+    (omega (arith, c.judge_stream-judged.auto.spares, c.deref_mut.ensures.len))))
+    (subst (λ (routes : List RouteState). AreSpares bounds routes spares) c.deref.ensures.value
+    c.judge_stream-judged.ensures.spares))
