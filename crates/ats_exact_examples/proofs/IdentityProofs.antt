@@ -12,7 +12,7 @@ use Rattle.ats_exact_examples.specs.Named.{IdentitiesAreExact, IsStreamIdentifie
 
 -- What stands at the place that a search by a destination address and a VLAN identifier finds.
 
-declared_so : (identity : ℕ × ℕ) (o : Option (ℕ × ℕ)) → is_identity identity o ≡ true → o ≡ Some identity
+pub declared_so : (identity : ℕ × ℕ) (o : Option (ℕ × ℕ)) → is_identity identity o ≡ true → o ≡ Some identity
 declared_so identity None h = absurd (false≢true h)
 declared_so identity (Some declared) h =
     let parts : (eqb declared.0 identity.0 ≡ true) × (eqb declared.1 identity.1 ≡ true) =

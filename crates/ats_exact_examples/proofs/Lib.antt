@@ -10,3 +10,5 @@ pub mod PortProofs
 pub mod RecordProofs
 pub mod WaitProofs
 pub mod IdentityProofs
+pub mod FoundProofs
+pub mod TagProofs

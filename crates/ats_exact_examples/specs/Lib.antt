@@ -7,3 +7,5 @@ pub mod Orders
 pub mod Only
 pub mod AnyWords
 pub mod Named
+pub mod Found
+pub mod Tags

@@ -3,12 +3,14 @@
 ghost use Rattle.ats_exact_examples.specs.Waits.{WaitsMayGrow};
 ghost use Rattle.ats_exact_examples.specs.Records.{FirstFaultsAreNamed};
 ghost use Rattle.ats_exact_examples.specs.Faults.{FaultsAreFirst};
+ghost use Rattle.ats_exact_examples.specs.Found.{IdentitiesAreFound, NamesAreFound};
 ghost use Rattle.ats_exact_examples.specs.Ports.{GroupsCrossPorts};
 ghost use Rattle.ats_exact_examples.specs.Links.{LatenciesMayDiffer};
 ghost use Rattle.ats_exact_examples.specs.Orders.{OrdersAreExact};
 ghost use Rattle.ats_exact_examples.specs.Only.{NothingElseIsRead};
 ghost use Rattle.ats_exact_examples.specs.AnyWords.{WordsAreAny};
 ghost use Rattle.ats_exact_examples.specs.Named.{IdentitiesAreExact, NamesAreExact};
+ghost use Rattle.ats_exact_examples.specs.Tags.{TagsAreExact};
 
 /// A longer wait covers too, and makes larger buffers there and behind.
 pub fn waits_may_grow()
@@ -63,4 +65,22 @@ pub fn names_are_exact()
 /// declares is what the stream with its number does.
 pub fn identities_are_exact()
     ensures { IdentitiesAreExact }
+{}
+
+/// What is found by a name is the first stream, port or station that is called so, and nothing is found only where none
+/// is.
+pub fn names_are_found()
+    ensures { NamesAreFound }
+{}
+
+/// What is found by a destination address and a VLAN identifier is the first stream that declares them, and nothing is
+/// found only where none does; each stream has what it declares; and the records of a capture belong to the streams
+/// that declare what identifies them and begin at the station.
+pub fn identities_are_found()
+    ensures { IdentitiesAreFound }
+{}
+
+/// The tag of a frame in a capture has the frame's class as its priority, and the VLAN identifier behind it.
+pub fn tags_are_exact()
+    ensures { TagsAreExact }
 {}
