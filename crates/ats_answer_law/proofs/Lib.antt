@@ -13,3 +13,4 @@ pub mod Concluded
 pub mod Replied
 pub mod FormatClocks
 pub mod Networks
+pub mod RunMeaning

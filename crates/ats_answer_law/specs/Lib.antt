@@ -10,3 +10,4 @@ pub mod JustOne
 pub mod Concluded
 pub mod Replied
 pub mod Networks
+pub mod RunMeaning

@@ -1,0 +1,30 @@
+//! What the words come to that say which runs, peaks, releases and delays are due.
+
+ghost use Rattle.ats_answer_law.specs.RunMeaning.{FoundAreMeant, MadeAreMeant, OrdersAreMeant};
+ghost use Rattle.ats_answer_law.specs.RunMeaning.{PeaksAreMeant, RunsAreMeant};
+
+/// The key and the wait of each order, of any sender, frame and spread.
+pub fn orders_are_meant()
+    ensures { OrdersAreMeant }
+{}
+
+/// The runs whose texts are due are just those by their order that have exactly the releases.
+pub fn runs_are_meant()
+    ensures { RunsAreMeant }
+{}
+
+/// Peaks are a number for each row, which was held at some time of the run, and more at none.
+pub fn peaks_are_meant()
+    ensures { PeaksAreMeant }
+{}
+
+/// Made releases are those of as many frames as are asked for, by time, and of one time as they are made.
+pub fn made_are_meant()
+    ensures { MadeAreMeant }
+{}
+
+/// What is found is a delay for each hop, shown by a run of the burst at its port, and the burst at the first hop with
+/// a greatest one.
+pub fn found_are_meant()
+    ensures { FoundAreMeant }
+{}
