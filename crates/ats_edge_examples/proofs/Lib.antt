@@ -2,3 +2,4 @@ mod TextProofs
 mod RunProofs
 mod OutsideProofs
 mod CapturedProofs
+mod ShortRouteProofs

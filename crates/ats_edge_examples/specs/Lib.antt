@@ -2,3 +2,4 @@ pub mod Texts
 pub mod Runs
 pub mod Outside
 pub mod Captured
+pub mod ShortRoutes

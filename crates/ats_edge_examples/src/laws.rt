@@ -3,6 +3,7 @@
 ghost use Rattle.ats_edge_examples.specs.Captured.{SenderIsCaptured};
 ghost use Rattle.ats_edge_examples.specs.Outside.{OutsideIsAtEdges};
 ghost use Rattle.ats_edge_examples.specs.Runs.{RunsAreAtEdges};
+ghost use Rattle.ats_edge_examples.specs.ShortRoutes.{RoutesAreAtEdges};
 ghost use Rattle.ats_edge_examples.specs.Texts.{TextsAreAtEdges};
 
 /// How lines and fields of certificates and schedules are cut; shape files with a residence and a time of 0, and with a
@@ -26,4 +27,10 @@ pub fn outside_is_at_edges()
 /// The capture of a port that sent a frame of sender 1 before one of sender 0: it tells of senders, and not of frames.
 pub fn sender_is_captured()
     ensures { SenderIsCaptured }
+{}
+
+/// Which tables have short routes between stations: those of a stream or a flow over 16 links, and not over 17; by ends
+/// or by paths, for each port, and where a route has no ports; and not where one begins or ends at a bridge.
+pub fn routes_are_at_edges()
+    ensures { RoutesAreAtEdges }
 {}

@@ -4,3 +4,4 @@ pub mod OnceMeant
 pub mod HandedMeant
 pub mod ReadMeant
 pub mod HappeningMeant
+pub mod LeavingMeant

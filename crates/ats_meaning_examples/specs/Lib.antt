@@ -4,3 +4,4 @@ pub mod Once
 pub mod Handed
 pub mod Read
 pub mod Happening
+pub mod Leaving

@@ -1,7 +1,9 @@
-//! What words say that laws only conclude, so that a word that said less would be noticed nowhere else.
+//! What words say that laws only conclude, or only ask for, so that a word that said less, or asked for more, would be
+//! noticed nowhere else.
 
 ghost use Rattle.ats_meaning_examples.specs.Handed.{HandingOnIsMeant};
 ghost use Rattle.ats_meaning_examples.specs.Happening.{HappeningIsMeant};
+ghost use Rattle.ats_meaning_examples.specs.Leaving.{LeavingIsMeant};
 ghost use Rattle.ats_meaning_examples.specs.Once.{OnceIsMeant};
 ghost use Rattle.ats_meaning_examples.specs.Parts.{ExplanationsAreMeant};
 ghost use Rattle.ats_meaning_examples.specs.Read.{ReadingIsMeant};
@@ -21,6 +23,12 @@ pub fn explanations_are_meant()
 /// is not true.
 pub fn settings_are_meant()
     ensures { SettingsAreMeant }
+{}
+
+/// At which places of a sender's ports there is one that leaves a bridge to which its frames come, on the trunk and on
+/// each branch, and at which there is none.
+pub fn leaving_is_meant()
+    ensures { LeavingIsMeant }
 {}
 
 /// That a frame is sent, told of and counted once; frames with a port twice, with two endings, or with none are not.

@@ -1,4 +1,4 @@
-//! What words say that laws only conclude.
+//! What words say that laws only conclude, or only ask for.
 #![tactic(auto)]
 
 pub mod laws;
