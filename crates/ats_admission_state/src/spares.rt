@@ -53,8 +53,33 @@ fn rise_over(bounds: &PortClassTable<u128>, port: u32, before: &[u128; CLASSES])
     rise
 }
 
-// Lowers the spares of the routes that have a port by so much, to 0 where they are less.
+// Lowers the spares of the routes that have a port by so much, to 0 where they are less. Where a quarter of all routes
+// have it, all are lowered: that is sooner done.
 fn lower(spares: &mut [u64], users: &PortUsers, port: u32, rise: u128)
+    requires port { port < length users.now.lists }
+    requires users { AreUsers (length spares.old) users.now }
+    ensures { (paths : List (List ℕ)) → ListsPaths (length users.now.lists) paths users.now
+        → AreLowered (users_of paths port) rise spares.old spares.new }
+{
+    if users.count(port) >= spares.len() / 4 {
+        lower_all(spares, rise);
+    } else {
+        lower_users(spares, users, port, rise);
+    }
+}
+
+// Lowers all spares by so much, to 0 where they are less.
+fn lower_all(spares: &mut [u64], rise: u128)
+    ensures { (numbers : List ℕ) → AreLowered numbers rise spares.old spares.new }
+{
+    let most = rise.min(u128::from(u64::MAX)) as u64;
+    for number in 0..spares.len() {
+        spares[number] = spares[number].saturating_sub(most);
+    }
+}
+
+// Lowers the spares of the routes that have a port by so much, to 0 where they are less.
+fn lower_users(spares: &mut [u64], users: &PortUsers, port: u32, rise: u128)
     requires port { port < length users.now.lists }
     requires users { AreUsers (length spares.old) users.now }
     ensures { (paths : List (List ℕ)) → ListsPaths (length users.now.lists) paths users.now

@@ -1,7 +1,7 @@
 use Rattle.std.proofs.Common.{ℕ, List, length, take}
 use Rattle.ats_admission_users.specs.Users.{ListsPaths, users_of}
 use Rattle.ats_admission_state.specs.Spares.{AreLowered}
-use Rattle.ats_admission_state.proofs.spares.lower.Given as goal
+use Rattle.ats_admission_state.proofs.spares.lower_users.Given as goal
 
 -- the spares of the users so far are lowered
 abbrev pub invariant-loop-rank : goal.invariant-loop-rank
