@@ -5,8 +5,9 @@ use Rattle.std.proofs.lemmas.List.Elements.{All-contains, Contains-get_or}
 use Rattle.std.proofs.lemmas.Option.{get_or_from_slice_get, slice_get-get_or, slice_get_within}
 use Rattle.ats_clock.specs.Clock.{DeclaredClock, declared_clock, ideal}
 use Rattle.ats_topology.specs.Node.{clock_of}
-use Rattle.ats_topology.specs.Topology.{DeclaredTopology, IsStationAt}
+use Rattle.ats_topology.specs.Topology.{DeclaredTopology, IsLink, IsNode, IsStationAt}
 use Rattle.ats_topology.specs.declared.node.Node.{Node}
+use Rattle.ats_topology.specs.declared.link.Link.{Link}
 use Rattle.ats_streams.specs.Branches.{routes_of}
 use Rattle.ats_streams.specs.Flow.{DeclaredFlow}
 use Rattle.ats_streams.specs.Stream.{DeclaredStream, IsIdentity, IsStream}
@@ -115,8 +116,28 @@ identified streams = (
       (slice_get-get_or streams j d within) identity.0 identity.1 share.one share.other,
 )
 
+-- a node and a link of a network
+node_is : (network : DeclaredNetwork) → IsNetwork network
+    → (node : Node) → Contains network.topology.nodes node → IsNode node
+node_is network is node among = All-contains IsNode network.topology.nodes node is.topology.each_node among
+
+link_is : (network : DeclaredNetwork) → IsNetwork network
+    → (link : Link) → Contains network.topology.links link → IsLink network.topology.nodes link
+link_is network is link among =
+    All-contains (IsLink network.topology.nodes) network.topology.links link is.topology.each_link among
+
 limits : (network : DeclaredNetwork) → IsNetwork network → IsWithinLimits network
 limits network is = record {
+  few_nodes = is.topology.few_nodes;
+  few_links = is.topology.few_links;
+  processing = λ node among.
+      let kept : IsNode node = node_is network is node among in
+      (kept.ordered, kept.processing);
+  residences = λ node among. (node_is network is node among).residence;
+  clocks = λ node among.
+      let kept : IsNode node = node_is network is node among in
+      (kept.clock.deviation, kept.clock.step);
+  propagation = λ link among. (link_is network is link among).propagation;
   few_streams = is.few_streams;
   few_ports = is.few_ports;
   few_flows = is.few_flows;

@@ -1,8 +1,9 @@
 use Rattle.std.specs.Prelude.{◌≡◌, ◌≢◌, ◌↔◌, ◌⊎◌, ℕ, ◌<◌, ◌≤◌, ◌^◌, IsTrue, List, length, sum_by, Contains, Some}
 use Rattle.std.specs.Prelude.{Ok, slice_get}
-use Rattle.ats_topology.specs.Node.{clock_of, is_station}
+use Rattle.ats_topology.specs.Node.{clock_of, greatest_processing_of, is_station, least_processing_of, residence_of}
 use Rattle.ats_topology.specs.Topology.{DeclaredTopology, HasIdealClocks, node_at}
 use Rattle.ats_topology.specs.declared.node.Node.{Node}
+use Rattle.ats_topology.specs.declared.link.Link.{Link}
 use Rattle.ats_streams.specs.Branches.{routes_of}
 use Rattle.ats_streams.specs.Flow.{DeclaredFlow}
 use Rattle.ats_streams.specs.Stream.{DeclaredStream, IsDeadline, IsIdentity}
@@ -49,9 +50,20 @@ HaveOwnIdentities streams = (i j : ℕ) (one other : DeclaredStream) → i < j
     → slice_get streams i ≡ Some one → slice_get streams j ≡ Some other
     → (address vlan : ℕ) → one.identity ≡ Some (address, vlan) → other.identity ≢ Some (address, vlan)
 
--- the numbers of a network: of its streams, of their ports together, of its flows and of the ports of a route; of each
--- stream the deadline, in nanoseconds, and the address and the VLAN identifier, where it has them
+-- the numbers of a network: of its nodes and links, of its streams, of their ports together, of its flows and of the
+-- ports of a route; of each node the processing times, the residence time and what its clock deviates and steps by; of
+-- each link the propagation; of each stream the deadline, and the address and the VLAN identifier, where it has them.
+-- Times are in nanoseconds, but for a step, in picoseconds
 pub record IsWithinLimits (network : DeclaredNetwork) : Type 0 where
+  pub few_nodes : length network.topology.nodes ≤ 1024
+  pub few_links : length network.topology.links ≤ 2048
+  pub processing : (node : Node) → Contains network.topology.nodes node
+      → (least_processing_of node.kind ≤ greatest_processing_of node.kind)
+      × (greatest_processing_of node.kind ≤ 1000000)
+  pub residences : (node : Node) → Contains network.topology.nodes node → residence_of node.kind ≤ 1000000000
+  pub clocks : (node : Node) → Contains network.topology.nodes node
+      → ((clock_of node.kind).deviation_ppm ≤ 1000) × ((clock_of node.kind).step_ps ≤ 10000000)
+  pub propagation : (link : Link) → Contains network.topology.links link → link.propagation_ns ≤ 1000000
   pub few_streams : length network.streams ≤ 4096
   pub few_ports : sum_by (λ (s : DeclaredStream). length s.ports) network.streams ≤ 65536
   pub few_flows : length network.flows ≤ 4096

@@ -19,3 +19,4 @@ pub mod WithinTickProofs
 pub mod RateTextProofs
 pub mod FileLimitProofs
 pub mod IdealProofs
+pub mod ExplainProofs

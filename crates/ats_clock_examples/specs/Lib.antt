@@ -17,3 +17,4 @@ pub mod WithinTicks
 pub mod RateTexts
 pub mod FileLimits
 pub mod IdealClocks
+pub mod Explained

@@ -1,5 +1,6 @@
-//! What is printed of rates that clocks change, and which of them a file may declare.
+//! What is printed of rates and of stays that clocks change, and which rates a file may declare.
 
+ghost use Rattle.ats_clock_examples.specs.Explained.{ExplainedByClocks};
 ghost use Rattle.ats_clock_examples.specs.FileLimits.{FilesKeepLimits};
 ghost use Rattle.ats_clock_examples.specs.RateTexts.{ChangedRatesAreShown};
 
@@ -13,4 +14,10 @@ pub fn changed_rates_are_shown()
 /// of the bridge at which it ends, with limits that may be reached.
 pub fn files_keep_limits()
     ensures { FilesKeepLimits }
+{}
+
+/// Stays are explained by the clock of the bridge, loads by the rates behind it, and each hop that is over is counted
+/// among the totals.
+pub fn explained_by_clocks()
+    ensures { ExplainedByClocks }
 {}

@@ -3,3 +3,4 @@ mod RunProofs
 mod OutsideProofs
 mod CapturedProofs
 mod ShortRouteProofs
+mod FaultOrderProofs

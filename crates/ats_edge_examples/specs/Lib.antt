@@ -3,3 +3,4 @@ pub mod Runs
 pub mod Outside
 pub mod Captured
 pub mod ShortRoutes
+pub mod FaultOrders

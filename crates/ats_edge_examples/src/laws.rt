@@ -1,6 +1,7 @@
 //! What just counts, and what just does not.
 
 ghost use Rattle.ats_edge_examples.specs.Captured.{SenderIsCaptured};
+ghost use Rattle.ats_edge_examples.specs.FaultOrders.{FaultsAreInOrder};
 ghost use Rattle.ats_edge_examples.specs.Outside.{OutsideIsAtEdges};
 ghost use Rattle.ats_edge_examples.specs.Runs.{RunsAreAtEdges};
 ghost use Rattle.ats_edge_examples.specs.ShortRoutes.{RoutesAreAtEdges};
@@ -33,4 +34,9 @@ pub fn sender_is_captured()
 /// or by paths, for each port, and where a route has no ports; and not where one begins or ends at a bridge.
 pub fn routes_are_at_edges()
     ensures { RoutesAreAtEdges }
+{}
+
+/// A stream or a flow that breaks a rule, and whose route is over the limit too, has the fault of the rule.
+pub fn faults_are_in_order()
+    ensures { FaultsAreInOrder }
 {}
