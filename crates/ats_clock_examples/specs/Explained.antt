@@ -44,7 +44,7 @@ pub record TotalsAreOfEach : Type 0 where
   pub over : (network : DeclaredNetwork) → (totals_of network).over ≡ over_count network
   pub over_of_hops : (network : DeclaredNetwork) → (totals_of network).over
       ≡ sum_by (λ (s : DeclaredStream). count_by (λ port. is_over (parts_of_hop network s port).stay) s.ports)
-        network.streams
+      network.streams
   pub is_over : (stay : Stay) → is_over (Some stay) ≡ nat_lt stay.residence stay.need
 
 pub record ExplainedByClocks : Type 0 where

@@ -4,3 +4,4 @@ mod OutsideProofs
 mod CapturedProofs
 mod ShortRouteProofs
 mod FaultOrderProofs
+mod EachEntryProofs

@@ -2,7 +2,8 @@ use Rattle.std.specs.Prelude.{◌≡◌, ℕ, List, [], ◌∷◌, codes, replic
 use Rattle.ats_streams.specs.Flow.{DeclaredFlow, declared_flow, flow_fault, flow_fault_within}
 use Rattle.ats_streams.specs.Stream.{DeclaredStream, declared_stream, stream_fault, stream_fault_within}
 use Rattle.ats_streams.specs.declared.fault.StreamFault.{StreamFault}
-use Rattle.ats_streams.specs.declared.fault.StreamFault.TheVariants.{BadClass, BadRate, BadSizes, BurstBelowFrame, Limit}
+use Rattle.ats_streams.specs.declared.fault.StreamFault.TheVariants.{BadClass, BadRate, BadSizes, BurstBelowFrame}
+use Rattle.ats_streams.specs.declared.fault.StreamFault.TheVariants.{Limit}
 
 -- Of which fault a stream or a flow is told that breaks a rule and the limit on routes too.
 

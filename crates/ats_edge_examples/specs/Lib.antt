@@ -4,3 +4,4 @@ pub mod Outside
 pub mod Captured
 pub mod ShortRoutes
 pub mod FaultOrders
+pub mod EachEntry

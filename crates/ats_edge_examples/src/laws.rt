@@ -1,6 +1,7 @@
 //! What just counts, and what just does not.
 
 ghost use Rattle.ats_edge_examples.specs.Captured.{SenderIsCaptured};
+ghost use Rattle.ats_edge_examples.specs.EachEntry.{EachEntryCounts};
 ghost use Rattle.ats_edge_examples.specs.FaultOrders.{FaultsAreInOrder};
 ghost use Rattle.ats_edge_examples.specs.Outside.{OutsideIsAtEdges};
 ghost use Rattle.ats_edge_examples.specs.Runs.{RunsAreAtEdges};
@@ -39,4 +40,10 @@ pub fn routes_are_at_edges()
 /// A stream or a flow that breaks a rule, and whose route is over the limit too, has the fault of the rule.
 pub fn faults_are_in_order()
     ensures { FaultsAreInOrder }
+{}
+
+/// Which network is that of a file's tables: one in which a number of a stream or a flow, a class, a route, a node or a
+/// link is another is not, nor one with a stream or a flow more or less; and which path is the one of two ends.
+pub fn each_entry_counts()
+    ensures { EachEntryCounts }
 {}
