@@ -12,12 +12,13 @@ use Rattle.ats_network.specs.Shortest.{shortest_of}
 use Rattle.ats_network_file_law.specs.Entries.{IsBetweenEnds}
 use Rattle.ats_network_file_law.proofs.Entries.{each_entry_stands}
 use Rattle.ats_examples.specs.Networks.{fork}
+use Rattle.ats_examples.proofs.Tests.{lt_of}
 use Rattle.ats_file_examples.specs.AtPorts.{several_at_ports, several_document, several_text}
 use Rattle.ats_file_examples.specs.Forked as forked
 use Rattle.ats_file_examples.proofs.ForkRead.{fork_is_read}
 use Rattle.ats_file_examples.proofs.PortsRead.{ports_are_read}
-use Rattle.ats_edge_examples.specs.EachEntry.{EachEntryCounts, EachHasItsPlace, NumbersCount, PathsCount, RoutesCount}
-use Rattle.ats_edge_examples.specs.EachEntry.{TablesCount, tables, three_ways}
+use Rattle.ats_edge_examples.specs.EachEntry.{EachEntryCounts, EachHasItsPlace, LegsCount, NumbersCount, PathsCount}
+use Rattle.ats_edge_examples.specs.EachEntry.{RoutesCount, TablesCount, tables, three_ways}
 
 -- Networks of tables by the law that each entry stands, and others by what is not equal.
 
@@ -107,6 +108,13 @@ paths = record {
   not_named = λ h. differ h (λ (names : List (List ℕ)). length names == 5) refl refl;
 }
 
+legs : LegsCount
+legs = record {
+  at_branch = λ h. differ (h.branches.begin.1.0.at_talker refl) (λ (n : ℕ). n == 0) refl refl;
+  sent_twice = λ h. h.streams.0.tree.apart 1 3 0 (lt_of 1 3 refl) (lt_of 3 5 refl) refl;
+  back = λ h. h.valid.apart 0 2 0 (lt_of 0 2 refl) (lt_of 2 3 refl) refl;
+}
+
 pub each_entry_counts : EachEntryCounts
 each_entry_counts = record {
   numbers = numbers;
@@ -114,4 +122,5 @@ each_entry_counts = record {
   tables = tables_count;
   places = places;
   paths = paths;
+  legs = legs;
 }

@@ -6,7 +6,7 @@ use Rattle.ats_streams.specs.Flow.{DeclaredFlow, declared_flow}
 use Rattle.ats_streams.specs.Stream.{DeclaredStream, branching_stream}
 use Rattle.ats_network.specs.Network.{declared_network, long_network}
 use Rattle.ats_network_toml.specs.Document as file
-use Rattle.ats_network_file_law.specs.Entries.{IsNetworkOf, IsPathOf}
+use Rattle.ats_network_file_law.specs.Entries.{IsFlowOf, IsNetworkOf, IsPathOf, IsStreamOf}
 use Rattle.ats_examples.specs.Networks.{bridge, fork, fork_links, fork_nodes, link, station}
 use Rattle.ats_file_examples.specs.AtPorts.{along, pair_topology, several_document, several_flows, several_streams}
 use Rattle.ats_file_examples.specs.Forked as forked
@@ -105,9 +105,58 @@ pub record PathsCount : Type 0 where
   pub named : IsPathOf three_ways by_third (0 ∷ 6 ∷ 8 ∷ 4 ∷ [])
   pub not_named : ¬ IsPathOf three_ways by_third (0 ∷ 2 ∷ 4 ∷ [])
 
+-- a fourth station at the fork's bridge, and an entry of a stream to three stations
+abbrev pub star : DeclaredTopology
+star = topology_of (fork_nodes ++ station (codes "s4") ∷ []) (fork_links ++ link (codes "s4") (codes "b1") ∷ [])
+
+abbrev pub to_three : file.DeclaredStream
+to_three = record {
+  name = codes "a";
+  routes =
+      file.ends (codes "s1") (codes "s2") ∷ file.ends (codes "s1") (codes "s3")
+      ∷ file.ends (codes "s1") (codes "s4") ∷ [];
+  classes = 6 ∷ [];
+  rate_bps = 100000000;
+  burst_bits = 12336;
+  min_octets = 64;
+  max_octets = 1522;
+  deadline_ns = 26672;
+  identity = None;
+}
+
+-- its frames are copied at the bridge. A leg that begins at the first hop of another branch would have the same route
+abbrev pub at_branch : DeclaredStream
+at_branch = branching_stream (codes "a") (0 ∷ 2 ∷ 5 ∷ 7 ∷ [])
+    (record { first = 2; leg = 0; hop = 1 } ∷ record { first = 3; leg = 1; hop = 0 } ∷ []) (6 ∷ 6 ∷ 6 ∷ 6 ∷ [])
+    100000000 12336 64 1522 26672 None
+
+-- a stream to two stations, for which its talker would send each frame twice to the bridge; its routes are the same
+abbrev pub sent_twice : DeclaredStream
+sent_twice = record forking {
+  ports = 0 ∷ 2 ∷ 0 ∷ 5 ∷ [];
+  branches = record { first = 2; leg = 0; hop = 0 } ∷ [];
+  classes = 6 ∷ 6 ∷ 6 ∷ 6 ∷ [];
+}
+
+-- an entry of a flow that goes back to its station
+abbrev pub there_and_back : file.DeclaredFlow
+there_and_back = record {
+  name = codes "f";
+  route = file.path (codes "s1" ∷ codes "b1" ∷ codes "s1" ∷ []);
+  max_octets = 1500;
+}
+
+-- legs make a tree, and the path of a flow goes to no node twice
+pub record LegsCount : Type 0 where
+  pub at_branch : ¬ IsStreamOf star to_three at_branch
+  pub sent_twice : ¬ IsNetworkOf (forked.document_with forked.ends_routes (6 ∷ []))
+      (long_network fork.topology (sent_twice ∷ []) [])
+  pub back : ¬ IsFlowOf pair_topology there_and_back (declared_flow (codes "f") (0 ∷ 1 ∷ []) 1500)
+
 pub record EachEntryCounts : Type 0 where
   pub numbers : NumbersCount
   pub routes : RoutesCount
   pub tables : TablesCount
   pub places : EachHasItsPlace
   pub paths : PathsCount
+  pub legs : LegsCount
