@@ -14,3 +14,9 @@ pub mod Replied
 pub mod FormatClocks
 pub mod Networks
 pub mod RunMeaning
+pub mod Either
+pub mod RunSays
+pub mod BoundSays
+pub mod FileFaults
+pub mod DueMeaning
+pub mod SameTexts

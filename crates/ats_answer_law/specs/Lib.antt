@@ -11,3 +11,9 @@ pub mod Concluded
 pub mod Replied
 pub mod Networks
 pub mod RunMeaning
+pub mod Never
+pub mod RunSays
+pub mod BoundSays
+pub mod FileFaults
+pub mod DueMeaning
+pub mod SameTexts

@@ -3,3 +3,4 @@
 
 pub mod laws;
 pub mod run_laws;
+pub mod say_laws;
