@@ -12,3 +12,4 @@ pub mod WaitProofs
 pub mod IdentityProofs
 pub mod FoundProofs
 pub mod TagProofs
+pub mod CaptureProofs

@@ -9,3 +9,4 @@ pub mod AnyWords
 pub mod Named
 pub mod Found
 pub mod Tags
+pub mod Captures

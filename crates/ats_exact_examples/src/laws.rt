@@ -1,5 +1,6 @@
 //! What laws that hold one way only leave open, on closed examples and as laws of their own.
 
+ghost use Rattle.ats_exact_examples.specs.Captures.{RecordsAreRead};
 ghost use Rattle.ats_exact_examples.specs.Waits.{WaitsMayGrow};
 ghost use Rattle.ats_exact_examples.specs.Records.{FirstFaultsAreNamed};
 ghost use Rattle.ats_exact_examples.specs.Faults.{FaultsAreFirst};
@@ -83,4 +84,10 @@ pub fn identities_are_found()
 /// The tag of a frame in a capture has the frame's class as its priority, and the VLAN identifier behind it.
 pub fn tags_are_exact()
     ensures { TagsAreExact }
+{}
+
+/// What identifies a frame stands in its first 16 bytes, so the outer of two tags counts; and any whole records behind
+/// a header without a fault are read, each as its own bytes say.
+pub fn records_are_read()
+    ensures { RecordsAreRead }
 {}

@@ -5,3 +5,4 @@ pub mod HandedMeant
 pub mod ReadMeant
 pub mod HappeningMeant
 pub mod LeavingMeant
+pub mod AskedMeant

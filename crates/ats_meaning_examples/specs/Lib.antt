@@ -5,3 +5,4 @@ pub mod Handed
 pub mod Read
 pub mod Happening
 pub mod Leaving
+pub mod Asked

@@ -1,6 +1,7 @@
 //! What words say that laws only conclude, or only ask for, so that a word that said less, or asked for more, would be
 //! noticed nowhere else.
 
+ghost use Rattle.ats_meaning_examples.specs.Asked.{AskedIsMeant};
 ghost use Rattle.ats_meaning_examples.specs.Handed.{HandingOnIsMeant};
 ghost use Rattle.ats_meaning_examples.specs.Happening.{HappeningIsMeant};
 ghost use Rattle.ats_meaning_examples.specs.Leaving.{LeavingIsMeant};
@@ -51,4 +52,10 @@ pub fn reading_is_meant()
 /// the stream that takes so long to the listener; and each such run shows one, whichever releases it has.
 pub fn happening_is_meant()
     ensures { HappeningIsMeant }
+{}
+
+/// What it comes to that senders are named, that talkers alone are asked to keep their buckets, that a journey has one
+/// leg, and which senders do not keep to what they declare.
+pub fn asked_is_meant()
+    ensures { AskedIsMeant }
 {}
