@@ -8,3 +8,4 @@ pub mod ConclusionsShown
 pub mod TextsShown
 pub mod RepliesShown
 pub mod PremisesShown
+pub mod CapturedMeant

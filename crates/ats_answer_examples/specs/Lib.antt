@@ -5,3 +5,4 @@ pub mod Concluded
 pub mod Printed
 pub mod Replied
 pub mod Premises
+pub mod Captured

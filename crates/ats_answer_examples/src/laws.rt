@@ -1,5 +1,6 @@
 //! Worked calls: the bytes of their files, and the answers that are due.
 
+ghost use Rattle.ats_answer_examples.specs.Captured.{CapturesAreMeant};
 ghost use Rattle.ats_answer_examples.specs.Concluded.{ConclusionsAreShown};
 ghost use Rattle.ats_answer_examples.specs.Premises.{PremisesAreShown};
 ghost use Rattle.ats_answer_examples.specs.Printed.{TextsAreShown};
@@ -69,4 +70,10 @@ pub fn replies_are_shown()
 /// which routes begin at stations, or join them.
 pub fn premises_are_shown()
     ensures { PremisesAreShown }
+{}
+
+/// What it comes to that a run, or releases, are those of a capture, that its traffic is counted, that a schedule is
+/// told as `releases` prints it, and that a capture is within what a certificate says: each part, and no others.
+pub fn captures_are_meant()
+    ensures { CapturesAreMeant }
 {}
