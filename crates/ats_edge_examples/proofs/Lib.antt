@@ -5,3 +5,4 @@ mod CapturedProofs
 mod ShortRouteProofs
 mod FaultOrderProofs
 mod EachEntryProofs
+mod RefusedTold

@@ -5,3 +5,4 @@ pub mod Captured
 pub mod ShortRoutes
 pub mod FaultOrders
 pub mod EachEntry
+pub mod Refused

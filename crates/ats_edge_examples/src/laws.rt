@@ -4,6 +4,7 @@ ghost use Rattle.ats_edge_examples.specs.Captured.{SenderIsCaptured};
 ghost use Rattle.ats_edge_examples.specs.EachEntry.{EachEntryCounts};
 ghost use Rattle.ats_edge_examples.specs.FaultOrders.{FaultsAreInOrder};
 ghost use Rattle.ats_edge_examples.specs.Outside.{OutsideIsAtEdges};
+ghost use Rattle.ats_edge_examples.specs.Refused.{RefusalsAreTold};
 ghost use Rattle.ats_edge_examples.specs.Runs.{RunsAreAtEdges};
 ghost use Rattle.ats_edge_examples.specs.ShortRoutes.{RoutesAreAtEdges};
 ghost use Rattle.ats_edge_examples.specs.Texts.{TextsAreAtEdges};
@@ -46,4 +47,10 @@ pub fn faults_are_in_order()
 /// link is another is not, nor one with a stream or a flow more or less; and which path is the one of two ends.
 pub fn each_entry_counts()
     ensures { EachEntryCounts }
+{}
+
+/// The number that is told of rows that are refused: a load with that of the higher class, a bound at the rate of its
+/// port and by the wait of its row, sums of other classes, and a need by the waits of the rows.
+pub fn refusals_are_told()
+    ensures { RefusalsAreTold }
 {}
