@@ -12,3 +12,4 @@ pub mod CapturesFirst
 pub mod SeveralRead
 pub mod TreesFound
 pub mod PortsFirst
+pub mod RangesRead

@@ -11,3 +11,4 @@ pub mod Captures
 pub mod Several
 pub mod Trees
 pub mod Ports
+pub mod Ranges

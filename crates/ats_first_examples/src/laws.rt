@@ -5,6 +5,7 @@ ghost use Rattle.ats_first_examples.specs.Asked.{RequestsAreFirst};
 ghost use Rattle.ats_first_examples.specs.Captures.{CapturesAreFirst};
 ghost use Rattle.ats_first_examples.specs.Kinds.{KindsAreRead};
 ghost use Rattle.ats_first_examples.specs.Ports.{PortsAreFirst};
+ghost use Rattle.ats_first_examples.specs.Ranges.{RangesAreRead};
 ghost use Rattle.ats_first_examples.specs.Records.{RecordsAreFirst};
 ghost use Rattle.ats_first_examples.specs.Rules.{RulesAreFirst};
 ghost use Rattle.ats_first_examples.specs.Senders.{SendersAreFirst};
@@ -83,4 +84,9 @@ pub fn requests_are_first()
 /// Bytes of captures, and the releases that their records make.
 pub fn captures_are_first()
     ensures { CapturesAreFirst }
+{}
+
+/// Which numbers of a network file are of 32 bits, and which take more.
+pub fn ranges_are_read()
+    ensures { RangesAreRead }
 {}
