@@ -20,3 +20,4 @@ pub mod BoundSays
 pub mod FileFaults
 pub mod DueMeaning
 pub mod SameTexts
+pub mod AnyClocks

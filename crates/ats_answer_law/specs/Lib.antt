@@ -17,3 +17,4 @@ pub mod BoundSays
 pub mod FileFaults
 pub mod DueMeaning
 pub mod SameTexts
+pub mod AnyClocks

@@ -1,5 +1,6 @@
 //! What the words come to that say which runs, peaks, releases and delays are due.
 
+ghost use Rattle.ats_answer_law.specs.AnyClocks.{NoClockIsAsked};
 ghost use Rattle.ats_answer_law.specs.RunMeaning.{FoundAreMeant, MadeAreMeant, OrdersAreMeant};
 ghost use Rattle.ats_answer_law.specs.RunMeaning.{PeaksAreMeant, RunsAreMeant};
 
@@ -27,4 +28,10 @@ pub fn made_are_meant()
 /// a greatest one.
 pub fn found_are_meant()
     ensures { FoundAreMeant }
+{}
+
+/// Runs by an order, travels, bursts and made releases are the same words whichever clocks the nodes of a network
+/// declare.
+pub fn no_clock_is_asked()
+    ensures { NoClockIsAsked }
 {}
