@@ -18,20 +18,20 @@ use Rattle.ats_engine_proofs.proofs.InTime.{ended-in-time}
 use Rattle.ats_engine.specs.declared.runner.Runner.{Runner}
 
 -- where the agenda is empty, what holds does so with no entries
-holds-empty : {T P : Type 0} {key : T → ℕ → ℕ → ℕ} {wait : P → ℕ → ℕ → ℕ} {runner : Runner T P}
+holds-empty : {T P S : Type 0} {key : T → ℕ → ℕ → ℕ} {wait : P → ℕ → ℕ → ℕ} {runner : Runner T P S}
     {entries : List (Moment × Event)} {capacity : ℕ} → IsReady key wait runner entries capacity → entries ≡ []
     → Holds key (wait runner.pace) runner.network.now (releases_in runner.state.records) (course_of runner.state) []
-holds-empty {T} {P} {key} {wait} {runner} ready empty =
+holds-empty {T} {P} {S} {key} {wait} {runner} ready empty =
     subst (λ (es : List (Moment × Event)). Holds key (wait runner.pace) runner.network.now
     (releases_in runner.state.records) (course_of runner.state) es) empty ready.holds
 
 -- then the finished journeys are a run of what the engine was opened with, by its tie and its pace
-pub run-by : {T O P : Type 0} {key : T → ℕ → ℕ → ℕ} {wait : P → ℕ → ℕ → ℕ} (setting : Setting T O P)
-    {first last : Runner T P} (agenda : Contents O Event) {entries : List (Moment × Event)} {capacity : ℕ}
+pub run-by : {T O P S : Type 0} {key : T → ℕ → ℕ → ℕ} {wait : P → ℕ → ℕ → ℕ} (setting : Setting T O P)
+    {first last : Runner T P S} (agenda : Contents O Event) {entries : List (Moment × Event)} {capacity : ℕ}
     {run : List Travel} → setting_of first agenda ≡ setting → Follows last first
     → IsReady key wait last entries capacity → entries ≡ [] → run ≡ finished last.state.records
     → IsRunBy (key setting.tie) (wait setting.pace) setting.network run × HasReleases setting.releases run
-run-by {T} {O} {P} {key} {wait} setting {first} {last} agenda seen follows ready empty is =
+run-by {T} {O} {P} {S} {key} {wait} setting {first} {last} agenda seen follows ready empty is =
     let tie : last.state.tie ≡ setting.tie = follows.tie ∙ ap (λ (s : Setting T O P). s.tie) seen in
     let pace : last.pace ≡ setting.pace = follows.pace ∙ ap (λ (s : Setting T O P). s.pace) seen in
     let network : last.network.now ≡ setting.network = follows.network ∙ ap (λ (s : Setting T O P). s.network) seen in
@@ -48,7 +48,7 @@ run-by {T} {O} {P} {key} {wait} setting {first} {last} agenda seen follows ready
     )
 
 -- and all that it tells was before the end of time
-pub run-in-time : {T P : Type 0} {key : T → ℕ → ℕ → ℕ} {wait : P → ℕ → ℕ → ℕ} {last : Runner T P}
+pub run-in-time : {T P S : Type 0} {key : T → ℕ → ℕ → ℕ} {wait : P → ℕ → ℕ → ℕ} {last : Runner T P S}
     {entries : List (Moment × Event)} {capacity : ℕ} {run : List Travel} → IsReady key wait last entries capacity
     → entries ≡ [] → run ≡ finished last.state.records → IsRunInTime run
 run-in-time ready empty is = subst IsRunInTime (sym is) (ended-in-time (holds-empty ready empty))

@@ -37,13 +37,13 @@ before-if-after before timed now next hn hx after =
     ]
 
 -- the event whose entry was popped is the next one
-pub is-next : {T O P : Type 0} {key : T → ℕ → ℕ → ℕ} {wait : P → ℕ → ℕ → ℕ} {before : O → Moment → Moment → Type 0}
-    {runner : Runner T P} {agenda : Contents O Event} {now : Moment} {event : Event}
+pub is-next : {T O P S : Type 0} {key : T → ℕ → ℕ → ℕ} {wait : P → ℕ → ℕ → ℕ} {before : O → Moment → Moment → Type 0}
+    {runner : Runner T P S} {agenda : Contents O Event} {now : Moment} {event : Event}
     → IsAtEvent key wait before runner agenda now event → ((order : O) → IsIrreflexive (before order))
     → ((order : O) → IsTransitive (before order)) → ((order : O) → IsTimed (before order))
     → IsNext key (wait runner.pace) runner.network.now (releases_in runner.state.records) (course_of runner.state) now
     event agenda.entries
-is-next {T} {O} {P} {key} {wait} {before} {runner} {agenda} {now} {event} at irreflexive transitive timed =
+is-next {T} {O} {P} {S} {key} {wait} {before} {runner} {agenda} {now} {event} at irreflexive transitive timed =
     let ranges = moments-in-range at.ready.holds in
     let here = All-head (λ (x : Moment × Event). IsInRange x.0) (now, event) agenda.entries ranges in
     let there = All-tail (λ (x : Moment × Event). IsInRange x.0) (now, event) agenda.entries ranges in
@@ -54,13 +54,13 @@ is-next {T} {O} {P} {key} {wait} {before} {runner} {agenda} {now} {event} at irr
     }
 
 -- entries that a step brings, so that what holds does so with them, may be put into the agenda
-pub may-enter : {T O P : Type 0} {key : T → ℕ → ℕ → ℕ} {wait : P → ℕ → ℕ → ℕ}
-    {before : O → Moment → Moment → Type 0} {runner : Runner T P} {agenda : Contents O Event} {now : Moment}
+pub may-enter : {T O P S : Type 0} {key : T → ℕ → ℕ → ℕ} {wait : P → ℕ → ℕ → ℕ}
+    {before : O → Moment → Moment → Type 0} {runner : Runner T P S} {agenda : Contents O Event} {now : Moment}
     {event : Event} {new : Course T} {more : List (Moment × Event)}
     → IsAtEvent key wait before runner agenda now event → ((order : O) → IsTimed (before order))
     → Holds key (wait runner.pace) runner.network.now (releases_in runner.state.records) new (more ++ agenda.entries)
     → All (λ (entry : Moment × Event). IsAfter now entry.0) more → MayEnter before agenda more
-may-enter {T} {O} {P} {key} {wait} {before} {runner} {agenda} {now} {event} {new} {more} at timed holds after =
+may-enter {T} {O} {P} {S} {key} {wait} {before} {runner} {agenda} {now} {event} {new} {more} at timed holds after =
     let here = All-head (λ (x : Moment × Event). IsInRange x.0) (now, event) agenda.entries
     (moments-in-range at.ready.holds) in
     let there = all_left (λ (x : Moment × Event). IsInRange x.0) more agenda.entries (moments-in-range holds) in
@@ -76,14 +76,14 @@ may-enter {T} {O} {P} {key} {wait} {before} {runner} {agenda} {now} {event} {new
     }
 
 -- a step was taken, and its entries were put into the agenda
-pub goes : {T O P : Type 0} {key : T → ℕ → ℕ → ℕ} {wait : P → ℕ → ℕ → ℕ} {before : O → Moment → Moment → Type 0}
-    {runner : Runner T P} {agenda after : Contents O Event} {now : Moment} {event : Event} (state : State T)
+pub goes : {T O P S : Type 0} {key : T → ℕ → ℕ → ℕ} {wait : P → ℕ → ℕ → ℕ} {before : O → Moment → Moment → Type 0}
+    {runner : Runner T P S} {agenda after : Contents O Event} {now : Moment} {event : Event} (state : State T S)
     {more : List (Moment × Event)} → IsAtEvent key wait before runner agenda now event
     → Holds key (wait runner.pace) runner.network.now (releases_in runner.state.records) (course_of state)
     (more ++ agenda.entries)
     → steps_left (course_of state) < steps_left (course_of runner.state) → state.tie ≡ runner.state.tie
     → Enters agenda after more → Goes key wait runner (record runner { state = state }) agenda after
-goes {T} {O} {P} {key} {wait} {before} {runner} {agenda} {after} state at holds less tie enters =
+goes {T} {O} {P} {S} {key} {wait} {before} {runner} {agenda} {after} state at holds less tie enters =
     let released : releases_in state.records ≡ releases_in runner.state.records = releases-are holds.shape in
     let rows : length runner.state.records.legs ≡ length state.records.legs =
     rows-all at.ready.holds.shape ∙ sym (rows-all holds.shape) in

@@ -6,7 +6,7 @@ use Rattle.std.proofs.Math.Seq.{take-append_seam}
 use Rattle.ats_network.specs.Network.{DeclaredNetwork}
 use Rattle.ats_trace.specs.declared.journey.Release.{Release}
 use Rattle.ats_run_records.specs.Progress.{Progress, copies_opened, opened, trunks_opened}
-use Rattle.ats_run_records.proofs.AllCounts.{length-trunks}
+use Rattle.ats_run_records.proofs.AllCounts.{length-firsts, length-trunks}
 use Rattle.ats_engine_steps.specs.Course.{Course}
 use Rattle.ats_engine_steps.specs.Invariant.{IsShaped, opened_again}
 use Rattle.ats_engine_proofs.proofs.Rows.{frames-all}
@@ -38,5 +38,14 @@ released {T} {network} {releases} {course} shape =
     ∙ ap (take n) (sym (map-map release_in opened_again course.records) ∙ ap (map release_in) shape.legs)
     ∙ take-map release_in n (opened network releases).legs
     ∙ ap (λ (k : ℕ). map release_in (take k (opened network releases).legs)) (frames-all shape)
+    ∙ ap (map release_in) (trunks-first network releases)
+    ∙ trunks-released network 0 releases
+
+-- so are those of records in which nothing has happened yet
+pub released-opened : (network : DeclaredNetwork) (releases : List Release)
+    → map release_in (take (length (opened network releases).firsts) (opened network releases).legs) ≡ releases
+released-opened network releases =
+    ap (λ (n : ℕ). map release_in (take n (opened network releases).legs))
+    (length-firsts network (length releases) releases)
     ∙ ap (map release_in) (trunks-first network releases)
     ∙ trunks-released network 0 releases

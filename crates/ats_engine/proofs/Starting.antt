@@ -6,12 +6,12 @@ use Rattle.std.proofs.lemmas.Bool.{cases_lt}
 use Rattle.std.proofs.lemmas.List.{get_or_append_left, get_or_push, replicate_more}
 use Rattle.ats_facts.proofs.Lists.{count_by-cons}
 use Rattle.ats_topology.specs.Port.{port_at}
-use Rattle.ats_network.specs.Network.{DeclaredNetwork}
+use Rattle.ats_network.specs.Network.{DeclaredNetwork, IsNetwork}
 use Rattle.ats_network.specs.Senders.{sender_at}
 use Rattle.ats_events.specs.Contents.{Contents}
 use Rattle.ats_trace.specs.Releases.{AreReleases, HaveFewPorts}
 use Rattle.ats_trace.specs.declared.journey.Release.{Release}
-use Rattle.ats_run_records.specs.Progress.{Progress, leg_opened, trunks_opened}
+use Rattle.ats_run_records.specs.Progress.{Ledger, Progress, leg_opened, trunks_opened}
 use Rattle.ats_run_records.specs.Progress as progress
 use Rattle.ats_run_records.proofs.AllCounts.{length-firsts}
 use Rattle.ats_transmit.specs.State.{PortState}
@@ -23,8 +23,9 @@ use Rattle.ats_engine_steps.specs.declared.event.Event.{Event}
 use Rattle.ats_engine_steps.specs.declared.stage.Stage.{Stage}
 use Rattle.ats_engine_steps.specs.declared.stage.Stage.TheVariants.{Apart}
 use Rattle.ats_engine_steps.specs.Ports.{passes, room_of}
-use Rattle.ats_engine_proofs.specs.Opened.{IsFresh, released_from}
-use Rattle.ats_engine.specs.Opened.{IsFirst, setting_of}
+use Rattle.ats_engine_proofs.specs.Opened.{IsFresh, IsOpened, released_from}
+use Rattle.ats_engine.specs.Opened.{IsFirst}
+use Rattle.ats_engine.specs.Opening.{IsOpening, MayBegin, given_to}
 use Rattle.ats_engine.specs.Ready.{releases_in}
 use Rattle.ats_engine.specs.Rooms.{AreCounts, IsOpenedPort, AreOpened, AreOpenedTo, count_at, count_in, goes_through}
 use Rattle.ats_engine.specs.Rooms.{rooms_at}
@@ -32,8 +33,9 @@ use Rattle.ats_engine.specs.Setting.{Setting}
 use Rattle.ats_engine_proofs.proofs.Entries.{holds-permuted}
 use Rattle.ats_engine_proofs.proofs.Opened.{opened-holds}
 use Rattle.ats_engine_proofs.proofs.Rows.{rows-all}
-use Rattle.ats_engine.proofs.Released.{released, trunks-first}
-use Rattle.ats_engine.specs.Starts.{AreReleased, IsStart}
+use Rattle.ats_engine.proofs.Released.{released, released-opened, trunks-first}
+use Rattle.ats_engine.specs.Starts.{AreReleased}
+use Rattle.ats_engine.specs.declared.opening.Opening.{Opening}
 use Rattle.ats_engine.specs.declared.runner.Runner.{Runner}
 
 -- a port's room is counted over trunks that were just opened as over their releases
@@ -122,14 +124,14 @@ ports-fresh {T} network releases tie course opened tied records firsts port with
     }
 
 -- a run that is to begin is ready for its first event
-pub ready-first : {T O P : Type 0} (key : T → ℕ → ℕ → ℕ) (wait : P → ℕ → ℕ → ℕ) (releases : List Release) (order : O)
-    (tie : T) (runner : Runner T P) (agenda : Contents O Event) → AreReleases runner.network.now releases
-    → HaveFewPorts runner.network.now releases → runner.schedulers ≡ runner.network.now
-    → IsStart runner.network.now releases tie (course_of runner.state)
+pub ready-first : {T O P S : Type 0} (key : T → ℕ → ℕ → ℕ) (wait : P → ℕ → ℕ → ℕ) (releases : List Release) (order : O)
+    (runner : Runner T P S) (agenda : Contents O Event) → IsNetwork runner.network.now
+    → AreReleases runner.network.now releases → HaveFewPorts runner.network.now releases
+    → runner.schedulers ≡ runner.network.now → IsOpened runner.network.now releases (course_of runner.state)
     → AreReleased runner.network.now releases order agenda → IsFirst key wait runner agenda
-ready-first key wait releases order tie runner agenda are few schedulers start arrivals =
+ready-first key wait releases order runner agenda rules are few schedulers start arrivals =
     let first = opened-holds key (wait runner.pace) runner.network.now releases (course_of runner.state)
-    (released_from 0 releases) start.rules are few start.opened refl in
+    (released_from 0 releases) rules are few start refl in
     let entries : IsPermutation (released_from 0 releases) agenda.entries =
     subst (λ (l : List Release). IsPermutation (released_from 0 l) agenda.entries) (take-length releases)
     arrivals.entries in
@@ -145,31 +147,24 @@ ready-first key wait releases order tie runner agenda are few schedulers start a
       last = arrivals.last;
     }
 
+-- with the records of its releases, in which nothing has happened yet, it may begin
+pub may-begin : {T O P : Type 0} (opening : Opening T O P) {setting : Setting T O P} {releases : List Release}
+    {records : Ledger} → IsOpening releases opening → given_to opening releases ≡ setting
+    → records ≡ progress.opened setting.network releases → MayBegin opening records
+may-begin {T} {O} {P} opening {setting} {releases} is given fresh = record {
+  releases = releases;
+  is = is;
+  fresh = fresh ∙ ap (λ (s : Setting T O P). progress.opened s.network releases) (sym given);
+}
+
 -- and it is the run of what it was opened with
-pub setting-first : {T O P : Type 0} (releases : List Release) (order : O) (tie : T) (runner : Runner T P)
-    (agenda : Contents O Event) → AreReleases runner.network.now releases
-    → HaveFewPorts runner.network.now releases → IsStart runner.network.now releases tie (course_of runner.state)
-    → AreReleased runner.network.now releases order agenda
-    → setting_of runner agenda ≡ record {
-      network = runner.network.now;
-      releases = releases;
-      tie = tie;
-      order = order;
-      pace = runner.pace;
-    }
-setting-first {T} {O} {P} releases order tie runner agenda are few start arrivals =
-    let first = opened-holds (λ (t : T) (sender frame : ℕ). 0) (λ (frame spread : ℕ). 0) runner.network.now releases
-    (course_of runner.state) (released_from 0 releases) start.rules are few start.opened refl in
-    let onto : List Release → T → O → Setting T O P = λ rs t o. record {
-      network = runner.network.now;
-      releases = rs;
-      tie = t;
-      order = o;
-      pace = runner.pace;
-    } in
-    ap (λ (rs : List Release). onto rs runner.state.tie agenda.order) (released first.shape)
-    ∙ ap (λ (t : T). onto releases t agenda.order) start.tied
-    ∙ ap (onto releases tie) arrivals.ordered
+pub setting-first : {T O P : Type 0} (opening : Opening T O P) {setting : Setting T O P} {releases : List Release}
+    {records : Ledger} → given_to opening releases ≡ setting → records ≡ progress.opened setting.network releases
+    → given_to opening (releases_in records) ≡ setting
+setting-first opening {setting} {releases} given fresh =
+    ap (λ (l : Ledger). given_to opening (releases_in l)) fresh
+    ∙ ap (given_to opening) (released-opened setting.network releases)
+    ∙ given
 
 -- one leg more is apart
 pub apart-more : (front old new : List Stage) (n m : ℕ) → n + 1 ≡ m → old ≡ front ++ replicate n Apart

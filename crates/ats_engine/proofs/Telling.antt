@@ -89,12 +89,12 @@ entered-some {O} {before} old new {option} {entry} is may inserts =
     (entered-told tells inserts)
 
 -- what holds at a moment that was popped does so at its event
-pub at-event : {T O P : Type 0} {key : T → ℕ → ℕ → ℕ} {wait : P → ℕ → ℕ → ℕ} {before : O → Moment → Moment → Type 0}
-    {runner : Runner T P} (agenda : Contents O ⊤) {now : Moment} {entry : ⊤} {event : Event} → event_of now ≡ event
+pub at-event : {T O P S : Type 0} {key : T → ℕ → ℕ → ℕ} {wait : P → ℕ → ℕ → ℕ} {before : O → Moment → Moment → Type 0}
+    {runner : Runner T P S} (agenda : Contents O ⊤) {now : Moment} {entry : ⊤} {event : Event} → event_of now ≡ event
     → IsReady key wait runner (told ((now, entry) ∷ agenda.entries)) agenda.capacity → agenda.last ≡ Some now
     → All (λ (x : Moment × ⊤). before agenda.order now x.0) agenda.entries
     → IsAtEvent key wait before runner (agenda_told agenda) now event
-at-event {T} {O} {P} {key} {wait} {before} {runner} agenda {now} {entry} {event} is ready last first =
+at-event {T} {O} {P} {S} {key} {wait} {before} {runner} agenda {now} {entry} {event} is ready last first =
     subst (IsAtEvent key wait before runner (agenda_told agenda) now) is (record {
       ready = ready;
       last = last;

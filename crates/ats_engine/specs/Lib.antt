@@ -2,6 +2,7 @@ pub mod Entering
 pub mod Following
 pub mod Offering
 pub mod Opened
+pub mod Opening
 pub mod Ready
 pub mod Rooms
 pub mod Setting

@@ -6,7 +6,7 @@ use Rattle.ats_engine.specs.Ready.{IsReady, releases_in}
 use Rattle.ats_engine.specs.Setting.{Setting}
 
 -- what a runner with this agenda runs
-abbrev pub setting_of : {T O P : Type 0} → Runner T P → Contents O Event → Setting T O P
+abbrev pub setting_of : {T O P S : Type 0} → Runner T P S → Contents O Event → Setting T O P
 setting_of runner agenda = record {
   network = runner.network.now;
   releases = releases_in runner.state.records;
@@ -16,7 +16,7 @@ setting_of runner agenda = record {
 }
 
 -- it is ready for its first event
-pub record IsFirst {T O P : Type 0} (key : T → ℕ → ℕ → ℕ) (wait : P → ℕ → ℕ → ℕ) (runner : Runner T P)
+pub record IsFirst {T O P S : Type 0} (key : T → ℕ → ℕ → ℕ) (wait : P → ℕ → ℕ → ℕ) (runner : Runner T P S)
     (agenda : Contents O Event) : Type 0 where
   pub ready : IsReady key wait runner agenda.entries agenda.capacity
   pub last : agenda.last ≡ None

@@ -1,18 +1,10 @@
 use Rattle.std.specs.Prelude.{◌≡◌, ℕ, ◌+◌, List, length, take, None, IsPermutation}
 use Rattle.ats_events.specs.Contents.{Contents}
-use Rattle.ats_network.specs.Network.{DeclaredNetwork, IsNetwork}
+use Rattle.ats_network.specs.Network.{DeclaredNetwork}
 use Rattle.ats_trace.specs.declared.journey.Release.{Release}
 use Rattle.ats_run_records.specs.Progress.{opened}
-use Rattle.ats_engine_steps.specs.Course.{Course}
 use Rattle.ats_engine_steps.specs.declared.event.Event.{Event}
-use Rattle.ats_engine_proofs.specs.Opened.{IsOpened, released_from}
-
--- a run with this tie in which nothing has happened yet
-pub record IsStart {T : Type 0} (network : DeclaredNetwork) (releases : List Release) (tie : T) (course : Course T)
-    : Type 0 where
-  pub rules : IsNetwork network
-  pub opened : IsOpened network releases course
-  pub tied : course.tie ≡ tie
+use Rattle.ats_engine_proofs.specs.Opened.{released_from}
 
 -- an agenda with the arrivals of the first so many frames at their talkers, and room for an entry of each leg of a
 -- frame and each port

@@ -12,7 +12,7 @@ use ats_engine_steps::{Event, row_begun};
 use ats_events::{Agenda, Moment, TimeOrder};
 use ats_network::Network;
 use ats_num::Ps;
-use ats_run_records::Records;
+use ats_run_records::{Records, Store};
 
 /// Puts an entry into the agenda, where there is one: its moment, which tells the event.
 pub(crate) fn enter<O: TimeOrder>(agenda: &mut Agenda<O, ()>, entry: Option<(Moment, Event)>)
@@ -25,10 +25,10 @@ pub(crate) fn enter<O: TimeOrder>(agenda: &mut Agenda<O, ()>, entry: Option<(Mom
 }
 
 /// Puts into the agenda the eligibility at this time of each leg that begins at a hop of the leg of a row.
-pub(crate) fn enter_begun<O: TimeOrder>(
+pub(crate) fn enter_begun<O: TimeOrder, S: Store>(
     agenda: &mut Agenda<O, ()>,
     net: &Network,
-    records: &Records,
+    records: &Records<S>,
     row: u32,
     hop: u32,
     at: Ps,

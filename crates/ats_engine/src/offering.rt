@@ -11,12 +11,13 @@ use ats_engine_steps::{Event, State, become_eligible};
 use ats_events::Moment;
 use ats_network::Network;
 use ats_num::{Ps, Tie};
+use ats_run_records::Store;
 
 /// A frame that came now along a leg is eligible at this time. Where that is now, its port is offered it at once, and
 /// this gives what that brings; where it is later, this gives when the frame becomes eligible.
-pub(crate) fn offer_or_leave<T: Tie>(
+pub(crate) fn offer_or_leave<T: Tie, S: Store>(
     net: &Network,
-    state: &mut State<T>,
+    state: &mut State<T, S>,
     now: Moment,
     row: u32,
     at: Ps,

@@ -4,23 +4,91 @@ ghost use Rattle.std.specs.Prelude.{◌≡◌, ◌-◌, ◌≤◌, ◌++◌, IfO
 ghost use Rattle.ats_trace.specs.declared.journey.Release.{Release};
 ghost use Rattle.ats_trace.specs.Releases.{AreReleases, HaveFewPorts};
 ghost use Rattle.ats_run_records.specs.Progress.{opened};
-ghost use Rattle.ats_engine_steps.specs.Seen.{course_of};
 ghost use Rattle.ats_engine_steps.specs.declared.stage.Stage.TheVariants.{Apart, Coming};
-ghost use Rattle.ats_engine.specs.Starts.{IsStart, AreReleased};
+ghost use Rattle.ats_engine.specs.Starts.{AreReleased};
 ghost use Rattle.ats_engine.specs.Rooms.{AreOpened};
 ghost use Rattle.ats_engine.specs.Told.{agenda_told};
 
 use crate::rooms::{counts_of, rooms_at};
-use ats_engine_steps::{Event, Stage, State, Turn};
-use ats_events::{Agenda, Moment, TimeOrder};
+use ats_engine_steps::{Event, Stage, Turn};
+use ats_events::{Agenda, TimeOrder};
 use ats_group::Groups;
 use ats_network::Network;
-use ats_num::{Ps, Tie};
-use ats_run_records::Records;
+use ats_num::{Pace, Ps, Tie};
 use ats_schedulers::Schedulers;
 use ats_trace::Release;
 use ats_transmit::Port;
 use std::alloc::{AllocError, Global};
+
+/// All of a run of releases, in which nothing has happened yet, but its records.
+#[derive(Drop)]
+pub(crate) struct Opening<'a, T: Tie, O: TimeOrder, P: Pace> {
+    pub(crate) network: &'a Network,
+    pub(crate) schedulers: Schedulers<'a>,
+    pub(crate) pace: P,
+    pub(crate) stages: Vec<Stage>,
+    pub(crate) ports: Vec<Port<T>>,
+    pub(crate) turns: Vec<Turn>,
+    pub(crate) arrives_from: Vec<Ps>,
+    pub(crate) groups: Groups,
+    pub(crate) tie: T,
+    pub(crate) agenda: Agenda<O, ()>,
+}
+
+impl<'a, T: Tie, O: TimeOrder, P: Pace> Opening<'a, T, O, P> {
+    ghost use Rattle.ats_engine.specs.Opening.{IsOpening, given_to};
+
+    /// That of a run of these releases.
+    pub(crate) fn of(
+        alloc: Global,
+        net: &'a Network,
+        releases: &[Release],
+        tie: T,
+        order: O,
+        pace: P,
+    ) -> Result<Self, AllocError>
+        requires releases { AreReleases net.now releases.now }
+        requires few_ports { HaveFewPorts net.now releases.now }
+        ensures opens { IfOk result (IsOpening releases.now) }
+        ensures given { IfOk result (λ opening. given_to opening releases.now ≡ record {
+          network = net.now;
+          releases = releases.now;
+          tie = tie;
+          order = order;
+          pace = pace;
+        }) }
+    {
+        let schedulers = Schedulers::new(alloc, net)?;
+        let legs = legs_of(net, releases);
+        let count = net.topology().ports().len();
+        Ok(Opening {
+            network: net,
+            stages: stages_of(alloc, releases, legs)?,
+            ports: ports_of(alloc, net, releases, tie)?,
+            turns: vec![in alloc; Turn::Resting; count]?,
+            arrives_from: vec![in alloc; Ps(0); count]?,
+            groups: Groups::open(alloc, schedulers.residences(), schedulers.members())?,
+            agenda: agenda_of(alloc, net, releases, legs, order)?,
+            schedulers,
+            pace,
+            tie,
+        })
+    }
+}
+
+/// How many legs frames with these releases have together.
+fn legs_of(net: &Network, releases: &[Release]) -> usize
+    requires releases { AreReleases net.now releases.now }
+    requires few_ports { HaveFewPorts net.now releases.now }
+    ensures { result ≡ length (opened net.now releases.now).legs }
+{
+    let _rules = net.topology(); // for what a network keeps
+    let mut legs = releases.len();
+    for release in releases {
+        legs += net.sender_legs(release.sender) as usize - 1;
+    }
+    legs
+}
 
 /// Each frame comes to the first port of its trunk when it is released, and has not come to where its branches begin;
 /// there are so many legs.
@@ -59,40 +127,9 @@ fn ports_of<T: Tie>(
     Ok(ports)
 }
 
-/// A run of these releases in which nothing has happened yet.
-pub(crate) fn state_of<'a, T: Tie>(
-    alloc: Global,
-    net: &'a Network,
-    schedulers: &Schedulers<'a>,
-    releases: &[Release],
-    tie: T,
-) -> Result<State<T>, AllocError>
-    requires schedulers { schedulers.now ≡ net.now }
-    requires releases { AreReleases net.now releases.now }
-    requires few_ports { HaveFewPorts net.now releases.now }
-    ensures { IfOk result (λ state. IsStart net.now releases.now tie (course_of state)) }
-{
-    let records = Records::open(alloc, net, releases)?;
-    let count = net.topology().ports().len();
-    Ok(State {
-        stages: stages_of(alloc, releases, records.len())?,
-        records,
-        ports: ports_of(alloc, net, releases, tie)?,
-        turns: vec![in alloc; Turn::Resting; count]?,
-        arrives_from: vec![in alloc; Ps(0); count]?,
-        groups: Groups::open(alloc, schedulers.residences(), schedulers.members())?,
-        last: Moment {
-            at: Ps(0),
-            phase: 0,
-            id: 0,
-        },
-        tie,
-    })
-}
-
 /// An agenda in which each frame comes to its first port when it is released, and which has room
 /// for an entry of each of so many legs and each port.
-pub(crate) fn agenda_of<O: TimeOrder>(
+fn agenda_of<O: TimeOrder>(
     alloc: Global,
     net: &Network,
     releases: &[Release],

@@ -15,24 +15,25 @@ use ats_engine_steps::{Event, State, become_eligible, come, select};
 use ats_events::{Actor, Agenda, Moment, TimeOrder};
 use ats_network::Network;
 use ats_num::{Pace, Tie};
+use ats_run_records::Store;
 use ats_schedulers::Schedulers;
 
 /// A run that goes on: its network and schedulers, its pace, and where it stands.
 #[derive(Drop)]
-pub(crate) struct Runner<'a, T: Tie, P: Pace> {
+pub(crate) struct Runner<'a, T: Tie, P: Pace, S: Store> {
     pub(crate) network: &'a Network,
     pub(crate) schedulers: Schedulers<'a>,
     pub(crate) pace: P,
-    pub(crate) state: State<T>,
+    pub(crate) state: State<T, S>,
 }
 
-impl<'a, T: Tie, P: Pace> Runner<'a, T, P> {
+impl<'a, T: Tie, P: Pace, S: Store> Runner<'a, T, P, S> {
     /// A frame comes to the next port of a leg. Where it is eligible at once, the port is offered it at once.
     fn come<O: TimeOrder>(&mut self, now: Moment, row: u32, agenda: &mut Agenda<O, ()>)
         requires { IsAtEvent T.key P.wait O.before self.old (agenda_told agenda.old) now (Arrival row) }
         ensures { Goes T.key P.wait self.old self.new (agenda_told agenda.old) (agenda_told agenda.new) }
     {
-        let hop = self.state.records.hops_of(row).len() as u32;
+        let hop = self.state.records.hops(row);
         let due = come(self.network, &self.schedulers, &mut self.state, now, row);
         if let Some(at) = due {
             enter_begun(agenda, self.network, &self.state.records, row, hop, at);
@@ -60,7 +61,7 @@ impl<'a, T: Tie, P: Pace> Runner<'a, T, P> {
     }
 }
 
-impl<'a, T: Tie, O: TimeOrder, P: Pace> Actor<O> for Runner<'a, T, P> {
+impl<'a, T: Tie, O: TimeOrder, P: Pace, S: Store> Actor<O> for Runner<'a, T, P, S> {
     /// An entry is a moment alone, which tells the event.
     type Event = ();
 

@@ -191,28 +191,24 @@ entered-more {T} old course new groups rows other at verdict is apart becomes =
     ∙ ap (so (set_each (rows ++ other ∷ []) stage old.stages)) (sym (set_each-push rows other hop old.records))
 
 -- the course of a run in which one leg more got it, or none
-pub entered-next : {T : Type 0} (old course : Course T) (state joined : State T) (groups : GroupsState)
+pub entered-next : {T S : Type 0} (old course : Course T) (state joined : State T S) (groups : GroupsState)
     (rows next : List ℕ) (other : ℕ) (at : Ps) (verdict : Verdict) → joined ≡ state
     → course ≡ entered_rows old groups rows at verdict → All (λ (m : ℕ). m ≢ other) rows
     → course_of state ≡ entered course other at verdict → next ≡ rows ++ other ∷ []
     → course_of joined ≡ entered_rows old groups next at verdict
-entered-next {T} old course state joined groups rows next other at verdict joins is apart becomes more =
-    ap (λ (s : State T). course_of s) joins
+entered-next {T} {S} old course state joined groups rows next other at verdict joins is apart becomes more =
+    ap (λ (s : State T S). course_of s) joins
     ∙ entered-more old course (course_of state) groups rows other at verdict is apart becomes
     ∙ ap (λ (ns : List ℕ). entered_rows old groups ns at verdict) (sym more)
 
-pub entered-same : {T : Type 0} (old : Course T) (state joined : State T) (groups : GroupsState) (rows next : List ℕ)
-    (at : Ps) (verdict : Verdict) → joined ≡ state → course_of state ≡ entered_rows old groups rows at verdict
-    → next ≡ rows → course_of joined ≡ entered_rows old groups next at verdict
-entered-same {T} old state joined groups rows next at verdict joins is same =
-    ap (λ (s : State T). course_of s) joins
+pub entered-same : {T S : Type 0} (old : Course T) (state joined : State T S) (groups : GroupsState)
+    (rows next : List ℕ) (at : Ps) (verdict : Verdict) → joined ≡ state
+    → course_of state ≡ entered_rows old groups rows at verdict → next ≡ rows
+    → course_of joined ≡ entered_rows old groups next at verdict
+entered-same {T} {S} old state joined groups rows next at verdict joins is same =
+    ap (λ (s : State T S). course_of s) joins
     ∙ is
     ∙ ap (λ (ns : List ℕ). entered_rows old groups ns at verdict) (sym same)
-
--- how many records a leg had
-pub same-count : (read : List HopRecord) (progress : Progress) → read ≡ progress.hops
-    → length read ≡ length progress.hops
-same-count read progress is = ap (λ (hops : List HopRecord). length hops) is
 
 -- when a frame with a verdict is eligible
 pub same-due : (verdict told : Verdict) → verdict ≡ told → due_by told ≡ due_by verdict

@@ -2,7 +2,7 @@ use Rattle.ats_engine_steps.specs.Course.{Course}
 use Rattle.ats_engine_steps.specs.declared.state.State.{State}
 
 -- the course that a state stands for
-abbrev pub course_of : {T : Type 0} → State T → Course T
+abbrev pub course_of : {T S : Type 0} → State T S → Course T
 course_of state = record {
   stages = state.stages.items;
   records = state.records.legs;

@@ -9,15 +9,15 @@ use crate::legs::class_of;
 use ats_group::{Groups, Verdict};
 use ats_network::Network;
 use ats_num::Ps;
-use ats_run_records::Records;
+use ats_run_records::{Records, Store};
 use ats_schedulers::Schedulers;
 
 /// The verdict on a frame that comes now to the next port of a leg, by the group behind the port
 /// before.
-pub(crate) fn judge(
+pub(crate) fn judge<S: Store>(
     net: &Network,
     schedulers: &Schedulers,
-    records: &Records,
+    records: &Records<S>,
     groups: &mut Groups,
     now: Ps,
     row: u32,
@@ -27,7 +27,7 @@ pub(crate) fn judge(
     ensures verdict { result ≡ verdict_now net.now groups.old (progress_at records.now.legs row) now.0 }
     ensures groups { groups.new ≡ groups_now net.now groups.old (progress_at records.now.legs row) now.0 }
 {
-    let hops = records.hops_of(row).len() as u32;
+    let hops = records.hops(row);
     if hops == 0 {
         return Verdict::Eligible(now);
     }

@@ -18,7 +18,7 @@ use crate::turn::Turn;
 use ats_events::Moment;
 use ats_network::Network;
 use ats_num::{Pace, Ps, Tie};
-use ats_run_records::Records;
+use ats_run_records::{Records, Store};
 use ats_topology::Port as Link;
 use ats_trace::Ending;
 use ats_transmit::Port;
@@ -68,10 +68,10 @@ pub(crate) fn selection_of(port: u32, turn: Turn) -> Option<(Moment, Event)>
 
 /// A frame that is sent along a leg arrives behind the port at this time: at the next port of the leg, or at
 /// the leg's listener.
-pub(crate) fn leave(
+pub(crate) fn leave<S: Store>(
     net: &Network,
     stages: &mut Vec<Stage>,
-    records: &mut Records,
+    records: &mut Records<S>,
     row: u32,
     at: Ps,
 ) -> Option<(Moment, Event)>
@@ -87,7 +87,7 @@ pub(crate) fn leave(
     ensures entries { option_to_list result ≡ (leaves_for net.now row (progress_at records.old.legs row) at).entries }
 {
     let release = records.release(row);
-    let hops = records.hops_of(row).len();
+    let hops = records.hops(row) as usize;
     let ports = net.sender_leg(release.sender, records.leg(row)).len();
     if hops == ports {
         records.close(row, Ending::Sink(at));

@@ -9,15 +9,15 @@ use crate::legs::class_of;
 use ats_group::Verdict;
 use ats_network::Network;
 use ats_num::Ps;
-use ats_run_records::Records;
+use ats_run_records::{Records, Store};
 use ats_transmit::Offer;
 
 /// The port of a leg's last hop record.
-pub(crate) fn place_of(net: &Network, records: &Records, row: u32) -> u32
+pub(crate) fn place_of<S: Store>(net: &Network, records: &Records<S>, row: u32) -> u32
     requires { IsPlaced net.now records.now.legs row }
     ensures { result ≡ place_of net.now (progress_at records.now.legs row) }
 {
-    let hops = records.hops_of(row).len();
+    let hops = records.hops(row) as usize;
     let release = records.release(row);
     net.sender_leg(release.sender, records.leg(row))[hops - 1]
 }
@@ -34,18 +34,17 @@ fn eligibility_of(verdict: Verdict) -> Ps
 }
 
 /// A frame as the port of a leg's last hop record is offered it.
-pub(crate) fn offer_of(net: &Network, records: &Records, row: u32) -> Offer
+pub(crate) fn offer_of<S: Store>(net: &Network, records: &Records<S>, row: u32) -> Offer
     requires { IsPlaced net.now records.now.legs row }
     ensures { result ≡ offer_of net.now (progress_at records.now.legs row) }
 {
-    let hops = records.hops_of(row);
-    let last = hops[hops.len() - 1];
+    let hops = records.hops(row);
     let release = records.release(row);
     Offer {
         frame: records.frame(row),
         sender: release.sender,
-        class: class_of(net, release.sender, records.leg(row), hops.len() as u32 - 1),
-        eligible: eligibility_of(last.verdict()),
+        class: class_of(net, release.sender, records.leg(row), hops - 1),
+        eligible: eligibility_of(records.verdict(row)),
         octets: release.octets,
     }
 }

@@ -5,16 +5,16 @@ use crate::turn::Turn;
 use ats_events::Moment;
 use ats_group::Groups;
 use ats_num::{Ps, Tie};
-use ats_run_records::Records;
+use ats_run_records::{Records, Store};
 use ats_transmit::Port;
 
 /// Where a run stands between two events.
 #[derive(Drop)]
-pub struct State<T: Tie> {
+pub struct State<T: Tie, S: Store> {
     /// How far each frame is along each of its legs, by their rows.
     pub stages: Vec<Stage>,
     /// What has happened to each frame along them.
-    pub records: Records,
+    pub records: Records<S>,
     /// The ports, by their numbers.
     pub ports: Vec<Port<T>>,
     /// What each port does next.

@@ -22,17 +22,17 @@ use ats_events::Moment;
 use ats_group::Verdict;
 use ats_network::Network;
 use ats_num::{Pace, Ps, Tie};
-use ats_run_records::Records;
+use ats_run_records::{Records, Store};
 use ats_schedulers::Schedulers;
 use ats_trace::HopRecord;
 use ats_transmit::Pick;
 
 /// A frame comes to the next port of a leg: the node decides on it, once, and it becomes eligible at the time
 /// that this gives, along this leg and each that begins there, or is discarded.
-pub fn come<T: Tie>(
+pub fn come<T: Tie, S: Store>(
     net: &Network,
     schedulers: &Schedulers,
-    state: &mut State<T>,
+    state: &mut State<T, S>,
     now: Moment,
     row: u32,
 ) -> Option<Ps>
@@ -49,7 +49,7 @@ pub fn come<T: Tie>(
         row,
     );
     let sender = state.records.release(row).sender;
-    let hop = state.records.hops_of(row).len() as u32;
+    let hop = state.records.hops(row);
     enter(state, row, now.at, verdict);
     for copy in 1..net.sender_legs(sender) {
         if let Some(other) = row_begun(net, &state.records, row, hop, copy) {
@@ -65,7 +65,13 @@ pub fn come<T: Tie>(
 }
 
 /// The row of the copy of a frame with a leg's number, where that leg begins at a hop of the leg of this row.
-pub fn row_begun(net: &Network, records: &Records, row: u32, hop: u32, copy: u32) -> Option<u32>
+pub fn row_begun<S: Store>(
+    net: &Network,
+    records: &Records<S>,
+    row: u32,
+    hop: u32,
+    copy: u32,
+) -> Option<u32>
     requires row { row < length records.now.legs }
     requires sender { (progress_at records.now.legs row).release.sender < length (senders_of net.now) }
     requires frame { (progress_at records.now.legs row).frame < length records.now.firsts }
@@ -82,7 +88,7 @@ pub fn row_begun(net: &Network, records: &Records, row: u32, hop: u32, copy: u32
 }
 
 // A frame that came at this time with this verdict gets a hop record along a leg.
-fn enter<T: Tie>(state: &mut State<T>, row: u32, at: Ps, verdict: Verdict)
+fn enter<T: Tie, S: Store>(state: &mut State<T, S>, row: u32, at: Ps, verdict: Verdict)
     requires stages { row < length state.old.stages.items }
     requires room { HasRoom state.old.records.legs row }
     ensures { course_of state.new ≡ entered (course_of state.old) row at verdict }
@@ -97,9 +103,9 @@ fn enter<T: Tie>(state: &mut State<T>, row: u32, at: Ps, verdict: Verdict)
 
 /// A frame becomes eligible along a leg: its port holds it from now on, and where the port has rested it
 /// selects at the moment that this gives.
-pub fn become_eligible<T: Tie>(
+pub fn become_eligible<T: Tie, S: Store>(
     net: &Network,
-    state: &mut State<T>,
+    state: &mut State<T, S>,
     now: Moment,
     row: u32,
 ) -> Option<(Moment, Event)>
@@ -129,9 +135,9 @@ pub fn become_eligible<T: Tie>(
 /// A port selects: one of the frames that it holds is sent from now on, along the leg that has the port. This gives the
 /// moment at which the frame arrives behind the port, where that is at a port; and the moment at which the port selects
 /// again, where it holds a frame.
-pub fn select<T: Tie, P: Pace>(
+pub fn select<T: Tie, P: Pace, S: Store>(
     net: &Network,
-    state: &mut State<T>,
+    state: &mut State<T, S>,
     pace: &P,
     now: Moment,
     port: u32,

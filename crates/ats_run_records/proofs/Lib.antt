@@ -1,6 +1,11 @@
 pub mod AllCounts
+pub mod Begun
+pub mod BriefOpens
+pub mod Briefs
+pub mod Closing
 pub mod Counts
-pub mod Ends
+pub mod Ended
 pub mod Opens
 pub mod Rooms
+pub mod Telling
 pub mod Writes

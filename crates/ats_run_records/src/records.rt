@@ -9,10 +9,14 @@ ghost use Rattle.ats_trace.specs.declared.run.TheConstants.{MAX_HOPS};
 ghost use Rattle.ats_run_records.specs.Progress.{progress_at, opened, with_leg, with_hop, with_sent, with_ending};
 ghost use Rattle.ats_run_records.specs.Progress.{finished, last_hop};
 
-use crate::opening::{firsts_of, no_hop, rows_of};
+use crate::brief::Brief;
+use crate::ends::Ends;
+use crate::store::Store;
+use crate::whole::Whole;
+use ats_group::Verdict;
 use ats_network::Network;
 use ats_num::Ps;
-use ats_trace::{Ending, HopRecord, Journey, Release, Run, Span, row_of};
+use ats_trace::{Ending, HopRecord, Release, Run};
 use std::alloc::{AllocError, Global};
 use std::marker::Model;
 
@@ -21,54 +25,25 @@ use std::marker::Model;
 /// list, each with the frame's number and release, the leg's number among those of its sender, how many hop records
 /// there may be along it, those that there are, and the ending; and for each frame the place of its first copy.
 #[derive(Drop)]
-pub struct Records {
-    journeys: Vec<Journey>,
-    spans: Vec<Span>,
-    frames: Vec<u32>, // for each row the number of its frame
-    firsts: Vec<u32>, // for each frame the place of its first copy, or where it would be
-    hops: Vec<HopRecord>,
+pub struct Records<S: Store> {
+    store: S,
 }
 
-impl Model for Records {
+impl<S: Store> Model for Records<S> {
     ghost use Rattle.ats_run_records.specs.Progress.{Ledger};
 
     ghost Value = { Ledger };
 
-    ghost use Rattle.ats_run_records.specs.Inside.{AreRecords, ledger_of};
-
-    ghost view = { λ r. ledger_of r.journeys.items r.spans.items r.frames.items r.firsts.items r.hops.items };
-
-    ghost invariant = { λ r. AreRecords r.journeys.items r.spans.items r.frames.items r.firsts.items r.hops.items };
+    ghost view = { λ r. S.ledger r.store };
 }
 
-impl Records {
-    /// The records of frames with these releases over a network, along each leg of which there may be a hop record for
-    /// each of the leg's ports. Conditions: the releases may be run on the network, and the ports of the frames are
-    /// together at most 3,200,000. `AllocError` where memory runs out.
-    pub fn open(alloc: Global, net: &Network, releases: &[Release]) -> Result<Records, AllocError>
-        requires releases { AreReleases net.now releases.now }
-        requires few_ports { HaveFewPorts net.now releases.now }
-        ensures { IfOk result (λ records. records ≡ opened net.now releases.now) }
-    {
-        let _rules = net.topology(); // for what a network keeps
-        let (firsts, count) = firsts_of(alloc, net, releases)?;
-        let rows = rows_of(alloc, net, releases, count)?;
-        let hops = vec![in alloc; no_hop(); rows.room as usize]?;
-        Ok(Records {
-            journeys: rows.journeys,
-            spans: rows.spans,
-            frames: rows.frames,
-            firsts,
-            hops,
-        })
-    }
-
+impl<S: Store> Records<S> {
     /// The number of rows: of the legs of all frames.
     pub fn len(&self) -> usize
         ensures value { result ≡ length self.now.legs }
         ensures bounded { length self.now.legs ≤ MAX_HOPS }
     {
-        self.journeys.len()
+        self.store.len()
     }
 
     /// The row of a frame's leg, which is counted from 0 among the legs of its sender.
@@ -77,7 +52,7 @@ impl Records {
         requires there { row_of self.now.firsts frame leg < length self.now.legs }
         ensures { result ≡ row_of self.now.firsts frame leg }
     {
-        row_of(&self.firsts, frame, leg) as u32
+        self.store.row_of(frame, leg)
     }
 
     /// The number of the frame of a row.
@@ -85,7 +60,7 @@ impl Records {
         requires { row < length self.now.legs }
         ensures { result ≡ (progress_at self.now.legs row).frame }
     {
-        self.frames[row as usize]
+        self.store.frame(row)
     }
 
     /// The number of the leg of a row among the legs of its sender: 0 for a trunk.
@@ -93,7 +68,7 @@ impl Records {
         requires { row < length self.now.legs }
         ensures { result ≡ (progress_at self.now.legs row).leg }
     {
-        u32::from(self.spans[row as usize].leg)
+        self.store.leg(row)
     }
 
     /// The release of the frame of a row.
@@ -101,17 +76,24 @@ impl Records {
         requires { row < length self.now.legs }
         ensures { result ≡ (progress_at self.now.legs row).release }
     {
-        self.journeys[row as usize].release
+        self.store.release(row)
     }
 
-    /// The hop records of a row, in the order of the leg's ports.
-    pub fn hops_of(&self, row: u32) -> &[HopRecord]
+    /// How many hop records a row has.
+    pub fn hops(&self, row: u32) -> u32
         requires { row < length self.now.legs }
-        ensures { result.now ≡ (progress_at self.now.legs row).hops }
+        ensures { result ≡ length (progress_at self.now.legs row).hops }
     {
-        let span = self.spans[row as usize];
-        let first = span.first as usize;
-        &self.hops[first..first + span.count as usize]
+        self.store.hops(row)
+    }
+
+    /// The verdict of the last hop record of a row, which has one.
+    pub fn verdict(&self, row: u32) -> Verdict
+        requires row { row < length self.now.legs }
+        requires last { 0 < length (progress_at self.now.legs row).hops }
+        ensures { result ≡ (last_hop (progress_at self.now.legs row)).verdict }
+    {
+        self.store.verdict(row)
     }
 
     /// Adds one hop record more to those of a row, which has fewer than it may get. It takes no memory.
@@ -120,9 +102,7 @@ impl Records {
         requires room { length (progress_at self.old.legs row).hops < (progress_at self.old.legs row).room }
         ensures { self.new ≡ with_leg self.old row (with_hop (progress_at self.old.legs row) hop) }
     {
-        let span = &mut self.spans[row as usize];
-        self.hops[span.first as usize + span.count as usize] = hop;
-        span.count += 1;
+        self.store.push(row, hop);
     }
 
     /// Tells in the last hop record of a row when its transmission starts and ends. Conditions: the frame is eligible
@@ -134,9 +114,7 @@ impl Records {
         requires in_time { start.0 < END }
         ensures { self.new ≡ with_leg self.old row (with_sent (progress_at self.old.legs row) start end) }
     {
-        let span = self.spans[row as usize];
-        let place = span.first as usize + span.count as usize - 1;
-        self.hops[place].send(start, end);
+        self.store.send(row, start, end);
     }
 
     /// Tells how the leg of a row ended. It takes no memory.
@@ -144,7 +122,25 @@ impl Records {
         requires { row < length self.old.legs }
         ensures { self.new ≡ with_leg self.old row (with_ending (progress_at self.old.legs row) ending) }
     {
-        self.journeys[row as usize].ending = ending;
+        self.store.close(row, ending);
+    }
+}
+
+impl Records<Whole> {
+    /// The records of frames with these releases over a network, along each leg of which there may be a hop record for
+    /// each of the leg's ports, and all are kept. Conditions: the releases may be run on the network, and the ports of
+    /// the frames are together at most 3,200,000. `AllocError` where memory runs out.
+    pub fn open(
+        alloc: Global,
+        net: &Network,
+        releases: &[Release],
+    ) -> Result<Records<Whole>, AllocError>
+        requires releases { AreReleases net.now releases.now }
+        requires few_ports { HaveFewPorts net.now releases.now }
+        ensures { IfOk result (λ records. records ≡ opened net.now releases.now) }
+    {
+        let store = Whole::open(alloc, net, releases)?;
+        Ok(Records { store })
     }
 
     /// The run of these records, in which a leg of which no ending was told has ended with `Discard`. It takes no
@@ -152,6 +148,31 @@ impl Records {
     pub fn finish(self) -> Run
         ensures { result ≡ finished self }
     {
-        Run::new(self.journeys, self.spans, self.firsts, self.hops)
+        self.store.finish()
+    }
+}
+
+impl Records<Brief> {
+    /// As `open`, but of the hop records of a leg no more is kept than their number and the last verdict. The releases
+    /// are kept as they are given.
+    pub fn open_brief(
+        alloc: Global,
+        net: &Network,
+        releases: Vec<Release>,
+    ) -> Result<Records<Brief>, AllocError>
+        requires releases { AreReleases net.now releases.items }
+        requires few_ports { HaveFewPorts net.now releases.items }
+        ensures { IfOk result (λ records. records ≡ opened net.now releases.items) }
+    {
+        let store = Brief::open(alloc, net, releases)?;
+        Ok(Records { store })
+    }
+
+    /// How the frames of the run of these records ended, where a leg of which no ending was told has ended with
+    /// `Discard`. It takes no memory.
+    pub fn finish_brief(self) -> Ends
+        ensures { result ≡ finished self }
+    {
+        self.store.finish()
     }
 }

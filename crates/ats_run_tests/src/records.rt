@@ -51,10 +51,14 @@ fn records_of_two_frames(rt: HostRuntime) {
     records.close(1, Ending::Sink(Ps(12)));
     let mut sent = came(7);
     sent.send(Ps(7), Ps(9));
-    assert!(rt; records.hops_of(0) == [came(5)].as_slice());
-    assert!(rt; records.hops_of(1) == [sent, came(10)].as_slice());
+    assert!(rt; records.hops(0) == 1);
+    assert!(rt; records.verdict(0) == Verdict::Eligible(Ps(5)));
+    assert!(rt; records.hops(1) == 2);
+    assert!(rt; records.verdict(1) == Verdict::Eligible(Ps(10)));
     let run = records.finish();
     assert!(rt; run.journeys().len() == 2);
+    assert!(rt; run.legs(0) == 1);
+    assert!(rt; run.hops_of(0, 0) == [came(5)].as_slice());
     assert!(rt; run.legs(1) == 1);
     assert!(rt; run.hops_of(1, 0) == [sent, came(10)].as_slice());
 }

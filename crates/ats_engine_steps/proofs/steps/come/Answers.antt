@@ -6,7 +6,7 @@ use Rattle.ats_engine_steps.specs.Course.{sender_of}
 use Rattle.ats_engine_steps.specs.Seen.{course_of}
 use Rattle.ats_engine_steps.specs.Steps.{groups_now}
 use Rattle.ats_engine_steps.proofs.Entering.{all-entered, entered-next, entered-same, entered-so, no-row, other-row}
-use Rattle.ats_engine_steps.proofs.Entering.{rows_to, same-count, same-due, there-row}
+use Rattle.ats_engine_steps.proofs.Entering.{rows_to, same-due, there-row}
 use Rattle.ats_engine_steps.proofs.LegLemmas.{legs_more}
 use Rattle.ats_engine_steps.proofs.steps.come.Goals as goal
 use Rattle.ats_engine_steps.proofs.steps.come.Goals.{in-Some, in_default}
@@ -22,8 +22,7 @@ row_begun-requires g c =
     c.sender_legs-copy-end.ensures.value in
     let there : c.loop-copy.copy ≤ length s.branches = omega arith in
     let groups = groups_now c.args.net.now old.groups p c.args.now.at.0 in
-    let hop : length c.hops_of.result.now ≡ length p.hops =
-    same-count c.hops_of.result.now p c.hops_of.ensures in
+    let hop : c.hops-hop.result ≡ length p.hops = c.hops-hop.ensures in
     let so = entered-so c.args.net.now old course groups c.args.now.at.0 c.args.row (c.loop-copy.copy - 1) c.args.now.at
     c.judge-verdict.result c.requires.may_come (omega arith) c.loop-copy.invariant in
     record {
@@ -38,8 +37,8 @@ row_begun-requires g c =
             c.loop-copy.copy ≤ length (sender_of c.args.net.now q).branches) (sym so.progress) there,
       );
       there = there-row c.args.net.now old course groups c.args.now.at.0 c.args.row c.loop-copy.copy
-          (length c.hops_of.result.now) c.args.now.at c.judge-verdict.result c.requires.may_come c.loop-copy.auto.copy
-          there c.loop-copy.invariant hop;
+          c.hops-hop.result c.args.now.at c.judge-verdict.result c.requires.may_come c.loop-copy.auto.copy there
+          c.loop-copy.invariant hop;
     }
 
 pub enter-requires-in-Some : goal.enter-requires-in-Some
@@ -53,9 +52,8 @@ enter-requires-in-Some g c =
     c.sender_legs-copy-end.ensures.value in
     let groups = groups_now c.args.net.now old.groups p c.args.now.at.0 in
     let other = other-row c.args.net.now old course groups c.args.now.at.0 c.args.row c.loop-copy.copy
-    (length c.hops_of.result.now) c.in-Some.other c.args.now.at c.judge-verdict.result c.requires.may_come
-    c.loop-copy.auto.copy (omega arith) c.loop-copy.invariant
-    (same-count c.hops_of.result.now p c.hops_of.ensures) c.in-Some.ensures in
+    c.hops-hop.result c.in-Some.other c.args.now.at c.judge-verdict.result c.requires.may_come c.loop-copy.auto.copy
+    (omega arith) c.loop-copy.invariant c.hops-hop.ensures c.in-Some.ensures in
     record { stages = other.stages; room = other.room }
 
 pub loop-copy-preserved : goal.loop-copy-preserved
@@ -69,21 +67,20 @@ loop-copy-preserved g c =
     c.sender_legs-copy-end.ensures.value in
     let there : c.loop-copy.copy ≤ length s.branches = omega arith in
     let groups = groups_now c.args.net.now old.groups p c.args.now.at.0 in
-    let hop : length c.hops_of.result.now ≡ length p.hops =
-    same-count c.hops_of.result.now p c.hops_of.ensures in
+    let hop : c.hops-hop.result ≡ length p.hops = c.hops-hop.ensures in
     let rows = rows_to c.args.net.now old.firsts c.args.row p (length p.hops) (c.loop-copy.copy - 1) in
     let next = rows_to c.args.net.now old.firsts c.args.row p (length p.hops) (c.loop-copy.copy + 1 - 1) in
     elim c.match-row_begun.branch [
       | in-Some w ↦
           (let other = other-row c.args.net.now old course groups c.args.now.at.0 c.args.row c.loop-copy.copy
-          (length c.hops_of.result.now) w.in-Some.other c.args.now.at c.judge-verdict.result c.requires.may_come
+          c.hops-hop.result w.in-Some.other c.args.now.at c.judge-verdict.result c.requires.may_come
           c.loop-copy.auto.copy there c.loop-copy.invariant hop w.in-Some.ensures in
           entered-next {T = g.row.T.Denot} old course w.enter-in-Some.new.state c.match-row_begun.state groups rows next
           w.in-Some.other c.args.now.at c.judge-verdict.result w.state-is c.loop-copy.invariant other.apart
           w.enter-in-Some.ensures other.rows)
       | in_default w ↦
           (let same = no-row c.args.net.now old course groups c.args.now.at.0 c.args.row c.loop-copy.copy
-          (length c.hops_of.result.now) c.row_begun.result c.args.now.at c.judge-verdict.result c.requires.may_come
+          c.hops-hop.result c.row_begun.result c.args.now.at c.judge-verdict.result c.requires.may_come
           c.loop-copy.auto.copy there c.loop-copy.invariant hop c.row_begun.ensures w.in_default.not-Some in
           entered-same {T = g.row.T.Denot} old c.loop-copy.state c.match-row_begun.state groups rows next c.args.now.at
           c.judge-verdict.result w.state-is c.loop-copy.invariant same)

@@ -1,5 +1,4 @@
-use Rattle.std.proofs.Common.{List, length, ap, arith}
-use Rattle.ats_trace.specs.HopRecord.{HopRecord}
+use Rattle.std.proofs.Common.{ap}
 use Rattle.ats_engine_steps.specs.Course.{Course}
 use Rattle.ats_engine_proofs.proofs.Allowed.{may-come}
 use Rattle.ats_engine_proofs.proofs.Entries.{comes-after}
@@ -11,23 +10,11 @@ use Rattle.ats_engine.proofs.Going.{is-next, may-enter, goes}
 use Rattle.ats_engine.proofs.Joining.{enters-both, may-enter-earlier}
 use Rattle.ats_engine.proofs.runner.Runner.come.Goals as goal
 
-pub hops_of-requires : goal.hops_of-requires
-hops_of-requires g c =
+pub hops-hop-requires : goal.hops-hop-requires
+hops-hop-requires g c =
     let next =
     is-next c.requires g.met.O.TimeOrder.irreflexive g.met.O.TimeOrder.transitive g.met.O.TimeOrder.timed in
     (may-come next).may_come.room.within
-
-pub overflow_cast-hop : goal.overflow_cast-hop
-overflow_cast-hop g c =
-    let next =
-    is-next c.requires g.met.O.TimeOrder.irreflexive g.met.O.TimeOrder.transitive g.met.O.TimeOrder.timed in
-    let may = may-come next in
-    omega (
-      arith,
-      ap (λ (hs : List HopRecord). length hs) c.hops_of.ensures,
-      may.may_come.room.more,
-      may.may_come.most,
-    )
 
 pub come-due-requires-clause-schedulers : goal.come-due-requires-clause-schedulers
 come-due-requires-clause-schedulers g c = c.requires.ready.schedulers
@@ -41,36 +28,31 @@ pub enter_begun-requires-clause-row : goal.enter_begun-requires-clause-row
 enter_begun-requires-clause-row g c =
     let next =
     is-next c.requires g.met.O.TimeOrder.irreflexive g.met.O.TimeOrder.transitive g.met.O.TimeOrder.timed in
-    (has-come _ (may-come next) c.come-due.ensures
-    (ap (λ (hs : List HopRecord). length hs) c.hops_of.ensures)).within
+    (has-come _ (may-come next) c.come-due.ensures c.hops-hop.ensures).within
 
 pub enter_begun-requires-clause-sender : goal.enter_begun-requires-clause-sender
 enter_begun-requires-clause-sender g c =
     let next =
     is-next c.requires g.met.O.TimeOrder.irreflexive g.met.O.TimeOrder.transitive g.met.O.TimeOrder.timed in
-    (has-come _ (may-come next) c.come-due.ensures
-    (ap (λ (hs : List HopRecord). length hs) c.hops_of.ensures)).sender
+    (has-come _ (may-come next) c.come-due.ensures c.hops-hop.ensures).sender
 
 pub enter_begun-requires-clause-frame : goal.enter_begun-requires-clause-frame
 enter_begun-requires-clause-frame g c =
     let next =
     is-next c.requires g.met.O.TimeOrder.irreflexive g.met.O.TimeOrder.transitive g.met.O.TimeOrder.timed in
-    (has-come _ (may-come next) c.come-due.ensures
-    (ap (λ (hs : List HopRecord). length hs) c.hops_of.ensures)).frame
+    (has-come _ (may-come next) c.come-due.ensures c.hops-hop.ensures).frame
 
 pub enter_begun-requires-clause-there : goal.enter_begun-requires-clause-there
 enter_begun-requires-clause-there g c =
     let next =
     is-next c.requires g.met.O.TimeOrder.irreflexive g.met.O.TimeOrder.transitive g.met.O.TimeOrder.timed in
-    (has-come _ (may-come next) c.come-due.ensures
-    (ap (λ (hs : List HopRecord). length hs) c.hops_of.ensures)).there
+    (has-come _ (may-come next) c.come-due.ensures c.hops-hop.ensures).there
 
 pub enter_begun-requires-clause-entries : goal.enter_begun-requires-clause-entries
 enter_begun-requires-clause-entries g c =
     let next =
     is-next c.requires g.met.O.TimeOrder.irreflexive g.met.O.TimeOrder.transitive g.met.O.TimeOrder.timed in
-    let come = (has-come _ (may-come next) c.come-due.ensures
-    (ap (λ (hs : List HopRecord). length hs) c.hops_of.ensures)) in
+    let come = has-come _ (may-come next) c.come-due.ensures c.hops-hop.ensures in
     may-enter-begun c.args.row c.in-Some.is come.same
     (may-enter c.requires g.met.O.TimeOrder.timed (comes-holds next c.come-due.ensures)
     (comes-after next c.come-due.ensures))
@@ -85,8 +67,7 @@ pub enter-requires : goal.enter-requires
 enter-requires g c =
     let next =
     is-next c.requires g.met.O.TimeOrder.irreflexive g.met.O.TimeOrder.transitive g.met.O.TimeOrder.timed in
-    let come = (has-come _ (may-come next) c.come-due.ensures
-    (ap (λ (hs : List HopRecord). length hs) c.hops_of.ensures)) in
+    let come = has-come _ (may-come next) c.come-due.ensures c.hops-hop.ensures in
     let goes_on = proceeds next c.come-due.ensures c.in-Some.is c.offer_or_leave-entry.ensures.offered
     c.offer_or_leave-entry.ensures.left in
     may-enter-earlier (may-enter c.requires g.met.O.TimeOrder.timed goes_on.holds goes_on.after)
@@ -96,8 +77,7 @@ pub returns-in-Some : goal.returns-in-Some
 returns-in-Some g c =
     let next =
     is-next c.requires g.met.O.TimeOrder.irreflexive g.met.O.TimeOrder.transitive g.met.O.TimeOrder.timed in
-    let come = (has-come _ (may-come next) c.come-due.ensures
-    (ap (λ (hs : List HopRecord). length hs) c.hops_of.ensures)) in
+    let come = has-come _ (may-come next) c.come-due.ensures c.hops-hop.ensures in
     let goes_on = proceeds next c.come-due.ensures c.in-Some.is c.offer_or_leave-entry.ensures.offered
     c.offer_or_leave-entry.ensures.left in
     goes c.offer_or_leave-entry.new.state c.requires goes_on.holds goes_on.less goes_on.tie

@@ -1,0 +1,10 @@
+use Rattle.std.proofs.Common.{◌∙◌, arith}
+use Rattle.ats_run_records.proofs.Writes.{in-rows, leg-is}
+use Rattle.ats_run_records.proofs.whole.WholeStore.leg.Goals as goal
+
+pub index-requires : goal.index-requires
+index-requires c =
+    omega (arith, c.requires, in-rows c.self.invariant c.self.view_is, c.self.invariant.laid.spanned)
+
+pub returns : goal.returns
+returns c = c.from.ensures ∙ leg-is c.self.invariant c.self.view_is c.requires c.index.ensures
