@@ -1,23 +1,31 @@
--- The last record of a frame on its way to a listener.
+-- The last record of a frame on its way to a listener, and its verdict.
 use Rattle.std.proofs.Common.{◌≡◌, ◌∙◌, ℕ, zero, suc, ◌+◌, ◌-◌, ◌<◌, ◌≤◌, List, [], ◌∷◌, ◌++◌, length, get_or, sym, ap}
-use Rattle.std.proofs.Common.{arith, inl, inr, ◌⊎◌, ◌==◌, ◌≢◌, false, length-append, subst}
-use Rattle.std.proofs.lemmas.Bool.{eqb-false}
+use Rattle.std.proofs.Common.{arith, inl, inr, ◌⊎◌, true, false, length-append, refl, subst, Option, Some}
 use Rattle.std.proofs.lemmas.List.{get_or-append-add}
 use Rattle.std.proofs.lemmas.Option.{slice_get-get_or}
-use Rattle.std.specs.Prelude.{Some}
+use Rattle.std.specs.Prelude.{is_some}
+use Rattle.std.specs.Option.{option_map}
+use Rattle.ats_group.specs.declared.verdict.Verdict.{Verdict}
 use Rattle.ats_streams.specs.Branches.{leg_at, no_branch}
 use Rattle.ats_streams.proofs.BranchLemmas.{leg_falls}
 use Rattle.ats_network.specs.Network.{DeclaredNetwork, IsNetwork}
 use Rattle.ats_network.specs.Sender.{Sender}
-use Rattle.ats_network.specs.Senders.{IsSender}
+use Rattle.ats_network.specs.Senders.{IsSender, sender_at}
 use Rattle.ats_network.proofs.SenderLemmas.{sender_keeps}
 use Rattle.ats_trace.specs.Journey.{IsJourney, Travel, legs_in}
 use Rattle.ats_trace.specs.Stored.{leg_in}
 use Rattle.ats_trace.specs.Ways.{way_to}
 use Rattle.ats_trace.specs.HopRecord.{HopRecord}
+use Rattle.ats_trace.specs.declared.journey.Release.{Release}
 use Rattle.ats_route_law.proofs.Ways.{leads_in, way_at, way_before, way_first}
+use Rattle.ats_run_records.specs.LastVerdict.{last_verdict}
 use Rattle.ats_replay.specs.Totals.{last_of}
 use Rattle.ats_replay.proofs.Legs.{leg_listed, sender_of}
+
+-- the verdict of one record is that of the same
+pub verdict_alike : {one other : Option HopRecord} → one ≡ other
+    → option_map (λ (hop : HopRecord). hop.verdict) one ≡ option_map (λ (hop : HopRecord). hop.verdict) other
+verdict_alike same = ap (λ (o : Option HopRecord). option_map (λ (hop : HopRecord). hop.verdict) o) same
 
 -- the last of two joined lists is that of the second
 pub last_behind : (front own : List HopRecord) → 0 < length own → last_of (front ++ own) ≡ last_of own
@@ -37,7 +45,7 @@ pub record IsParent (network : DeclaredNetwork) (j : Travel) (leg parent : ℕ) 
   pub last : last_of (way_to (sender_of network j) j parent).hops ≡ last_of (way_to (sender_of network j) j leg).hops
 
 -- where the frame never came to a branch, its last record is that on the way along the leg off which it branches
-pub last_before : (network : DeclaredNetwork) (j : Travel) (leg parent : ℕ) → IsNetwork network → IsJourney network j
+last_before : (network : DeclaredNetwork) (j : Travel) (leg parent : ℕ) → IsNetwork network → IsJourney network j
     → 0 < leg → leg < length (legs_in j) → (leg_in j leg).hops ≡ []
     → parent ≡ (get_or (sender_of network j).branches (leg - 1) no_branch).leg → IsParent network j leg parent
 last_before network j zero parent rules is some within none found = absurd (omega arith)
@@ -71,21 +79,38 @@ last_of_trunk : (network : DeclaredNetwork) (j : Travel) → IsJourney network j
     → last_of (leg_in j 0).hops ≡ last_of (way_to (sender_of network j) j 0).hops
 last_of_trunk network j is = sym (ap last_of (way_first (sender_of network j) j is.copies))
 
--- so where it came to the leg, or this is the trunk
-pub last_here : (network : DeclaredNetwork) (j : Travel) (leg : ℕ) (hops : List HopRecord) → IsJourney network j
-    → leg < length (legs_in j) → hops ≡ (leg_in j leg).hops → (leg ≡ 0) ⊎ (0 < length hops)
-    → last_of hops ≡ last_of (way_to (sender_of network j) j leg).hops
-last_here network j leg hops is within same (inl trunk) =
-    ap last_of same
-    ∙ subst (λ (k : ℕ). last_of (leg_in j k).hops ≡ last_of (way_to (sender_of network j) j k).hops) (sym trunk)
-    (last_of_trunk network j is)
-last_here network j leg hops is within same (inr some) =
-    ap last_of same
-    ∙ last_own network j leg is within (subst (λ (hs : List HopRecord). 0 < length hs) same some)
+-- what was decided last on a leg tells whether the frame came to a port of it
+none_came : (hops : List HopRecord) (last : Option Verdict) → last ≡ last_verdict hops → is_some last ≡ false
+    → hops ≡ []
+none_came [] last is none = refl
+none_came (hop ∷ hops) last is none =
+    let own : List HopRecord = hop ∷ hops in
+    let there : last ≡ Some (get_or own (length own - 1) hop).verdict =
+    is ∙ verdict_alike (slice_get-get_or own (length own - 1) hop (omega arith)) in
+    let some : is_some last ≡ true = ap (λ (o : Option Verdict). is_some o) there in absurd (cc)
 
--- lists that are the same and not empty
-pub positive : (hops others : List HopRecord) → (length hops == 0) ≡ false → hops ≡ others → 0 < length others
-positive hops others none same =
-    let some : length hops ≢ 0 = eqb-false (length hops) 0 none in
-    let long : length hops ≡ length others = ap (λ (hs : List HopRecord). length hs) same in
-    omega (arith, some, long)
+some_came : (hops : List HopRecord) (last : Option Verdict) → last ≡ last_verdict hops → is_some last ≡ true
+    → 0 < length hops
+some_came [] last is some =
+    let none : is_some last ≡ false = ap (λ (o : Option Verdict). is_some o) is in absurd (cc)
+some_came (hop ∷ hops) last is some = omega arith
+
+-- so where nothing was decided, the one to ask is the leg that was found for the frame's sender
+pub parent_found : (network : DeclaredNetwork) (j : Travel) (leg parent : ℕ) (r : Release) (last : Option Verdict)
+    → IsNetwork network → IsJourney network j → 0 < leg → leg < length (legs_in j) → r ≡ j.release
+    → last ≡ last_verdict (leg_in j leg).hops → is_some last ≡ false
+    → parent ≡ (get_or (sender_at network r.sender).branches (leg - 1) no_branch).leg → IsParent network j leg parent
+parent_found network j leg parent r last rules is some within of_frame own none found =
+    last_before network j leg parent rules is some within (none_came (leg_in j leg).hops last own none)
+    (found ∙ ap (λ (one : Release). (get_or (sender_at network one.sender).branches (leg - 1) no_branch).leg) of_frame)
+
+-- and where something was, or this is the trunk, it is what was decided last on the way
+pub last_here : (network : DeclaredNetwork) (j : Travel) (leg : ℕ) (last : Option Verdict) → IsJourney network j
+    → leg < length (legs_in j) → last ≡ last_verdict (leg_in j leg).hops → (leg ≡ 0) ⊎ (is_some last ≡ true)
+    → last ≡ last_verdict (way_to (sender_of network j) j leg).hops
+last_here network j leg last is within own (inl trunk) =
+    own ∙ verdict_alike
+    (subst (λ (k : ℕ). last_of (leg_in j k).hops ≡ last_of (way_to (sender_of network j) j k).hops) (sym trunk)
+    (last_of_trunk network j is))
+last_here network j leg last is within own (inr some) =
+    own ∙ verdict_alike (last_own network j leg is within (some_came (leg_in j leg).hops last own some))

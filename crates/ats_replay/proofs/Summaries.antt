@@ -13,8 +13,8 @@ use Rattle.ats_network.specs.Network.{DeclaredNetwork, senders_of}
 use Rattle.ats_network.specs.Sender.{Sender}
 use Rattle.ats_network.specs.Senders.{sender_at}
 use Rattle.ats_trace.specs.Journey.{IsJourney, Leg, Travel, legs_in}
-use Rattle.ats_trace.specs.Stored.{journey_of, no_travel, travel_at}
-use Rattle.ats_trace.specs.declared.journey.Journey.{Journey}
+use Rattle.ats_trace.specs.Stored.{no_travel, travel_at}
+use Rattle.ats_trace.specs.declared.journey.Release.{Release}
 use Rattle.ats_trace.specs.Ways.{listener_count, way_to}
 use Rattle.ats_trace.specs.declared.run.TheConstants.{MAX_FRAMES}
 use Rattle.ats_replay.specs.Inside.{AreSummaries, HaveRoom, no_summary, summary_at, with_frame}
@@ -293,9 +293,9 @@ none_yet network all summaries many made = record {
 }
 
 -- the sender of the next frame of a run is one of the network's
-pub sender_inside : (network : DeclaredNetwork) (run : List Travel) (frame : ℕ) (row : Journey)
-    → All (IsJourney network) run → frame < length run → row ≡ journey_of (travel_at run frame)
-    → row.release.sender < length (senders_of network)
-sender_inside network run frame row journeys within is =
-    let own : row.release.sender ≡ (travel_at run frame).release.sender = ap (λ (r : Journey). r.release.sender) is in
+pub sender_inside : (network : DeclaredNetwork) (run : List Travel) (frame : ℕ) (r : Release)
+    → All (IsJourney network) run → frame < length run → r ≡ (travel_at run frame).release
+    → r.sender < length (senders_of network)
+sender_inside network run frame r journeys within is =
+    let own : r.sender ≡ (travel_at run frame).release.sender = ap (λ (one : Release). one.sender) is in
     omega (arith, own, (journeys frame no_travel within).sender)

@@ -12,9 +12,9 @@ ghost use Rattle.ats_trace.specs.Stored.{leg_in, travel_at};
 ghost use Rattle.ats_replay.specs.Departures.{copy_text, ending_line, frame_line, hop_line, journey_text, leg_lines};
 ghost use Rattle.ats_replay.specs.Departures.{sent_text, station_line, verdict_text};
 
+use crate::ended::Ended;
 use crate::line::Line;
 use crate::lines::write_number;
-use crate::rows::row_of;
 use ats_group::Verdict;
 use ats_network::{Network, station_of};
 use ats_num::Ps;
@@ -160,8 +160,8 @@ fn write_leg(
         (leg_at (legs_at network.now (travel_at run.now frame).release.sender) leg)
         (leg_in (travel_at run.now frame) leg)) }
 {
-    let row = row_of(run, frame);
-    let path = network.sender_leg(row.release.sender, leg);
+    let release = run.release_of(frame);
+    let path = network.sender_leg(release.sender, leg);
     let ending = run.ending_of(frame, leg);
     write_hops(out, network.topology(), path, run.hops_of(frame, leg))?;
     write_ending(out, &ending)?;
@@ -197,8 +197,8 @@ fn write_copy(
         (sender_at network.now (travel_at run.now frame).release.sender)
         (leg, leg_in (travel_at run.now frame) leg)) }
 {
-    let row = row_of(run, frame);
-    let path = network.sender_leg(row.release.sender, leg);
+    let release = run.release_of(frame);
+    let path = network.sender_leg(release.sender, leg);
     write_station(out, network.topology(), path)?;
     write_leg(out, network, run, frame, leg)?;
     Ok(())
@@ -217,8 +217,8 @@ pub(crate) fn write_journey(
     ensures { OnOk result
         (out.new.items ≡ out.old.items ++ journey_text network.now (frame, travel_at run.now frame)) }
 {
-    let row = row_of(run, frame);
-    write_frame(out, network, frame, &row.release)?;
+    let release = run.release_of(frame);
+    write_frame(out, network, frame, &release)?;
     write_leg(out, network, run, frame, 0)?;
     for leg in 1..run.legs(frame) {
         write_copy(out, network, run, frame, leg)?;

@@ -2,6 +2,7 @@
 //! there were.
 #![tactic(auto)]
 
+pub mod ended;
 mod journey;
 pub mod laws;
 mod line;
@@ -9,11 +10,11 @@ mod lines;
 pub mod printing;
 pub mod reporting;
 mod room;
-mod rows;
 pub mod summary;
 pub mod totals;
 mod ways;
 
+pub use ended::Ended;
 pub use printing::departures;
 pub use reporting::report;
 pub use summary::Summary;

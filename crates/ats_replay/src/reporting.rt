@@ -11,11 +11,11 @@ ghost use Rattle.ats_replay.specs.Summary.{first_of};
 ghost use Rattle.ats_replay.specs.Report.{bound_at, bound_text, kind_text, report_text, sender_lines, summary_text};
 ghost use Rattle.ats_replay.specs.Report.{title_text};
 
+use crate::ended::Ended;
 use crate::lines::write_number;
 use crate::summary::{Summary, firsts_of, summarize};
 use crate::totals::{totals_of, write_counts, write_totals};
 use ats_network::{Network, station_of};
-use ats_trace::Run;
 use std::alloc::{AllocError, Global};
 
 /// What came of the frames of each sender, in a line for each stream and then for each flow, in order, and behind that
@@ -26,14 +26,14 @@ use std::alloc::{AllocError, Global};
 /// time linear in the legs of the frames and senders, and the text is made in one buffer. `AllocError` where there is
 /// no memory for it.
 #[tactic(auto, unfolding(crate::specs::Report::report_text))]
-pub fn report(
+pub fn report<R: Ended>(
     alloc: Global,
     network: &Network,
-    run: &Run,
+    run: &R,
     sums: Option<&[u128]>,
 ) -> Result<Vec<u8>, AllocError>
-    requires { All (IsJourney network.now) run.now }
-    ensures { IfOk result (λ text. text.items ≡ report_text network.now run.now (option_copied sums.entry)) }
+    requires { All (IsJourney network.now) (R.run run.now) }
+    ensures { IfOk result (λ text. text.items ≡ report_text network.now (R.run run.now) (option_copied sums.entry)) }
 {
     let firsts = firsts_of(alloc, network)?;
     let summaries = summarize(alloc, network, run, &firsts)?;

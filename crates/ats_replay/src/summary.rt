@@ -11,11 +11,11 @@ ghost use Rattle.ats_trace.specs.declared.run.TheConstants.{MAX_FRAMES};
 ghost use Rattle.ats_replay.specs.Inside.{AreSummaries, HaveRoom, with_frame};
 ghost use Rattle.ats_replay.specs.Summary.{delay_to, first_of};
 
-use crate::rows::row_of;
+use crate::ended::Ended;
 use crate::totals::{NO_FRAMES, Totals, with_way};
 use ats_network::Network;
 use ats_num::Ps;
-use ats_trace::{Ending, Run};
+use ats_trace::Ending;
 use std::alloc::{AllocError, Global};
 
 /// What came of the frames of one sender for one of its listeners.
@@ -44,15 +44,15 @@ pub(crate) fn firsts_of(alloc: Global, network: &Network) -> Result<Vec<usize>, 
 }
 
 // What came of the frames of each sender of a network for each of its listeners, whose places begin at these.
-pub(crate) fn summarize(
+pub(crate) fn summarize<R: Ended>(
     alloc: Global,
     network: &Network,
-    run: &Run,
+    run: &R,
     firsts: &[usize],
 ) -> Result<Vec<Summary>, AllocError>
-    requires journeys { All (IsJourney network.now) run.now }
+    requires journeys { All (IsJourney network.now) (R.run run.now) }
     requires firsts { firsts.now ≡ map (first_of network.now) (range_with_len 0 (length (senders_of network.now) + 1)) }
-    ensures { IfOk result (λ summaries. AreSummaries network.now run.now summaries.items) }
+    ensures { IfOk result (λ summaries. AreSummaries network.now (R.run run.now) summaries.items) }
 {
     let all = firsts[network.senders() as usize];
     let mut summaries = vec![in alloc; Summary {
@@ -60,20 +60,26 @@ pub(crate) fn summarize(
         worst: Ps(0)
     }; all]?;
     for frame in 0..run.len() as u32 {
-        let sender = row_of(run, frame).release.sender as usize;
+        let sender = run.release_of(frame).sender as usize;
         add_frame(&mut summaries, firsts[sender], network, run, frame);
     }
     Ok(summaries)
 }
 
 // Counts a frame of a run for each listener of its sender, whose summaries begin at this place.
-fn add_frame(summaries: &mut Vec<Summary>, first: usize, network: &Network, run: &Run, frame: u32)
-    requires frame { frame < length run.now }
-    requires few { length run.now ≤ MAX_FRAMES }
-    requires journeys { All (IsJourney network.now) run.now }
-    requires first { first ≡ first_of network.now (travel_at run.now frame).release.sender }
-    requires so_far { AreSummaries network.now (take frame run.now) summaries.old.items }
-    ensures { AreSummaries network.now (take (frame + 1) run.now) summaries.new.items }
+fn add_frame<R: Ended>(
+    summaries: &mut Vec<Summary>,
+    first: usize,
+    network: &Network,
+    run: &R,
+    frame: u32,
+)
+    requires frame { frame < length (R.run run.now) }
+    requires few { length (R.run run.now) ≤ MAX_FRAMES }
+    requires journeys { All (IsJourney network.now) (R.run run.now) }
+    requires first { first ≡ first_of network.now (travel_at (R.run run.now) frame).release.sender }
+    requires so_far { AreSummaries network.now (take frame (R.run run.now)) summaries.old.items }
+    ensures { AreSummaries network.now (take (frame + 1) (R.run run.now)) summaries.new.items }
 {
     let _rules = network.topology(); // for what a network keeps
     for leg in 0..run.legs(frame) {
@@ -83,15 +89,22 @@ fn add_frame(summaries: &mut Vec<Summary>, first: usize, network: &Network, run:
 }
 
 // A summary with one frame of a run more, for the listener of a leg.
-fn with_frame(summary: &Summary, network: &Network, run: &Run, frame: u32, leg: u32) -> Summary
-    requires frame { frame < length run.now }
-    requires leg { leg < length (legs_in (travel_at run.now frame)) }
-    requires journey { IsJourney network.now (travel_at run.now frame) }
+fn with_frame<R: Ended>(
+    summary: &Summary,
+    network: &Network,
+    run: &R,
+    frame: u32,
+    leg: u32,
+) -> Summary
+    requires frame { frame < length (R.run run.now) }
+    requires leg { leg < length (legs_in (travel_at (R.run run.now) frame)) }
+    requires journey { IsJourney network.now (travel_at (R.run run.now) frame) }
     requires room { HaveRoom summary.now.totals }
-    ensures { result ≡ with_frame summary.now (travel_at run.now frame).release.at.0
-        (way_to (sender_at network.now (travel_at run.now frame).release.sender) (travel_at run.now frame) leg) }
+    ensures { result ≡ with_frame summary.now (travel_at (R.run run.now) frame).release.at.0
+        (way_to (sender_at network.now (travel_at (R.run run.now) frame).release.sender)
+        (travel_at (R.run run.now) frame) leg) }
 {
-    let release = row_of(run, frame).release.at.0;
+    let release = run.release_of(frame).at.0;
     let delay = delay_to(release, &run.ending_of(frame, leg));
     let ways = with_way(&summary.totals, network, run, frame, leg);
     Summary {

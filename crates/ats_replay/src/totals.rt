@@ -1,20 +1,22 @@
 //! How many frames there were, and how they ended.
 
-ghost use Rattle.std.specs.Prelude.{◌≡◌, ◌+◌, ◌++◌, ◌<◌, ◌≤◌, length, take, All, OnOk};
+ghost use Rattle.std.specs.Prelude.{◌≡◌, ◌+◌, ◌++◌, ◌<◌, ◌≤◌, false, length, take, All, OnOk};
+ghost use Rattle.std.specs.Option.{option_map_or};
 ghost use Rattle.ats_network.specs.Senders.{sender_at};
 ghost use Rattle.ats_trace.specs.Journey.{IsJourney, legs_in};
 ghost use Rattle.ats_trace.specs.Stored.{travel_at};
 ghost use Rattle.ats_trace.specs.Ways.{way_to};
 ghost use Rattle.ats_trace.specs.declared.run.TheConstants.{MAX_FRAMES};
 ghost use Rattle.ats_replay.specs.Inside.{HaveRoom, with_way};
-ghost use Rattle.ats_replay.specs.Totals.{counts_text, is_late_verdict, is_size_verdict, is_sunk, passes};
+ghost use Rattle.ats_replay.specs.Totals.{counts_text, is_late_verdict, is_size_verdict, is_sunk};
 ghost use Rattle.ats_replay.specs.Totals.{totals_line, totals_of};
 
+use crate::ended::Ended;
 use crate::lines::write_number;
-use crate::ways::last_record;
+use crate::ways::last_verdict;
 use ats_group::Verdict;
 use ats_network::Network;
-use ats_trace::{Ending, HopRecord, Run};
+use ats_trace::Ending;
 use std::alloc::AllocError;
 
 /// Numbers of frames, and of their listeners.
@@ -40,9 +42,9 @@ pub(crate) const NO_FRAMES: Totals = Totals {
 
 /// The totals of a run: of each frame and each of its listeners one of the last three counts one. Condition: each frame
 /// goes along its sender's legs (`IsJourney`), as in every legal run. It takes time linear in the legs of the frames.
-pub fn totals_of(network: &Network, run: &Run) -> Totals
-    requires { All (IsJourney network.now) run.now }
-    ensures { result ≡ totals_of network.now run.now }
+pub fn totals_of<R: Ended>(network: &Network, run: &R) -> Totals
+    requires { All (IsJourney network.now) (R.run run.now) }
+    ensures { result ≡ totals_of network.now (R.run run.now) }
 {
     let mut totals = NO_FRAMES;
     for frame in 0..run.len() as u32 {
@@ -52,12 +54,12 @@ pub fn totals_of(network: &Network, run: &Run) -> Totals
 }
 
 // Counts a frame of a run, and its ways to its listeners.
-fn add_ways(totals: &mut Totals, network: &Network, run: &Run, frame: u32)
-    requires frame { frame < length run.now }
-    requires few { length run.now ≤ MAX_FRAMES }
-    requires journeys { All (IsJourney network.now) run.now }
-    requires so_far { totals.old ≡ totals_of network.now (take frame run.now) }
-    ensures { totals.new ≡ totals_of network.now (take (frame + 1) run.now) }
+fn add_ways<R: Ended>(totals: &mut Totals, network: &Network, run: &R, frame: u32)
+    requires frame { frame < length (R.run run.now) }
+    requires few { length (R.run run.now) ≤ MAX_FRAMES }
+    requires journeys { All (IsJourney network.now) (R.run run.now) }
+    requires so_far { totals.old ≡ totals_of network.now (take frame (R.run run.now)) }
+    ensures { totals.new ≡ totals_of network.now (take (frame + 1) (R.run run.now)) }
 {
     let _rules = network.topology(); // for what a network keeps
     totals.frames += 1;
@@ -67,27 +69,28 @@ fn add_ways(totals: &mut Totals, network: &Network, run: &Run, frame: u32)
 }
 
 // The totals with one way more, that of a frame of a run to the listener of a leg.
-pub(crate) fn with_way(
+pub(crate) fn with_way<R: Ended>(
     totals: &Totals,
     network: &Network,
-    run: &Run,
+    run: &R,
     frame: u32,
     leg: u32,
 ) -> Totals
-    requires frame { frame < length run.now }
-    requires leg { leg < length (legs_in (travel_at run.now frame)) }
-    requires journey { IsJourney network.now (travel_at run.now frame) }
+    requires frame { frame < length (R.run run.now) }
+    requires leg { leg < length (legs_in (travel_at (R.run run.now) frame)) }
+    requires journey { IsJourney network.now (travel_at (R.run run.now) frame) }
     requires room { HaveRoom totals.now }
-    ensures { result ≡ with_way totals.now (way_to (sender_at network.now (travel_at run.now frame).release.sender)
-        (travel_at run.now frame) leg) }
+    ensures { result ≡ with_way totals.now
+        (way_to (sender_at network.now (travel_at (R.run run.now) frame).release.sender)
+        (travel_at (R.run run.now) frame) leg) }
 {
     let ending = run.ending_of(frame, leg);
-    let last = last_record(network, run, frame, leg);
+    let last = last_verdict(network, run, frame, leg);
     Totals {
         frames: totals.frames,
         sunk: totals.sunk + u64::from(is_sunk(&ending)),
-        late: totals.late + u64::from(is_late(&last)),
-        size: totals.size + u64::from(is_oversize(&last)),
+        late: totals.late + u64::from(is_late(last)),
+        size: totals.size + u64::from(is_oversize(last)),
     }
 }
 
@@ -101,24 +104,18 @@ fn is_sunk(ending: &Ending) -> bool
     }
 }
 
-// Whether the verdict of the last record is that the frame would be eligible too late.
-fn is_late(last: &Option<HopRecord>) -> bool
-    ensures { result ≡ passes is_late_verdict last.now }
+// Whether the last verdict is that the frame would be eligible too late.
+fn is_late(last: Option<Verdict>) -> bool
+    ensures { result ≡ option_map_or is_late_verdict last false }
 {
-    match last {
-        Some(hop) => matches!(hop.verdict(), Verdict::Late(_)),
-        None => false,
-    }
+    matches!(last, Some(Verdict::Late(_)))
 }
 
 // Whether it is that the frame's octets are not allowed.
-fn is_oversize(last: &Option<HopRecord>) -> bool
-    ensures { result ≡ passes is_size_verdict last.now }
+fn is_oversize(last: Option<Verdict>) -> bool
+    ensures { result ≡ option_map_or is_size_verdict last false }
 {
-    match last {
-        Some(hop) => matches!(hop.verdict(), Verdict::Size),
-        None => false,
-    }
+    matches!(last, Some(Verdict::Size))
 }
 
 // Appends the numbers of frames.

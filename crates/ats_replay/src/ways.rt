@@ -7,27 +7,35 @@ ghost use Rattle.ats_streams.specs.Branches.{no_branch};
 ghost use Rattle.ats_trace.specs.Journey.{IsJourney, legs_in};
 ghost use Rattle.ats_trace.specs.Stored.{travel_at};
 ghost use Rattle.ats_trace.specs.Ways.{way_to};
-ghost use Rattle.ats_replay.specs.Totals.{last_of};
+ghost use Rattle.ats_run_records.specs.LastVerdict.{last_verdict};
 
-use crate::rows::row_of;
+use crate::ended::Ended;
+use ats_group::Verdict;
 use ats_network::{Network, Sender};
-use ats_trace::{HopRecord, Run};
 
-// The last record of a frame of a run on its way to the listener of a leg: of the leg, or, where the frame never came
-// there, of that off which the leg branches.
-pub(crate) fn last_record(network: &Network, run: &Run, frame: u32, leg: u32) -> Option<HopRecord>
-    requires frame { frame < length run.now }
-    requires leg { leg < length (legs_in (travel_at run.now frame)) }
-    requires journey { IsJourney network.now (travel_at run.now frame) }
-    ensures { result ≡ last_of (way_to (sender_at network.now (travel_at run.now frame).release.sender)
-        (travel_at run.now frame) leg).hops }
+// What was decided last on a frame of a run on its way to the listener of a leg: on the leg, or, where the frame never
+// came there, on that off which the leg branches.
+pub(crate) fn last_verdict<R: Ended>(
+    network: &Network,
+    run: &R,
+    frame: u32,
+    leg: u32,
+) -> Option<Verdict>
+    requires frame { frame < length (R.run run.now) }
+    requires leg { leg < length (legs_in (travel_at (R.run run.now) frame)) }
+    requires journey { IsJourney network.now (travel_at (R.run run.now) frame) }
+    ensures { result ≡ last_verdict (way_to (sender_at network.now (travel_at (R.run run.now) frame).release.sender)
+        (travel_at (R.run run.now) frame) leg).hops }
 {
-    let row = row_of(run, frame);
     let mut leg = leg;
-    while leg > 0 && run.hops_of(frame, leg).is_empty() {
-        leg = parent_of(network, row.release.sender, leg);
+    while leg > 0 {
+        let last = run.last_of(frame, leg);
+        if last.is_some() {
+            return last;
+        }
+        leg = parent_of(network, run.release_of(frame).sender, leg);
     }
-    run.hops_of(frame, leg).last().copied()
+    run.last_of(frame, leg)
 }
 
 // The leg off which another one of a sender, a branch, branches.

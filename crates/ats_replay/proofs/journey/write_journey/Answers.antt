@@ -1,7 +1,7 @@
 use Rattle.std.proofs.Common.{◌++◌, ap, ◌∙◌, arith}
 use Rattle.ats_network.specs.Senders.{sender_at}
 use Rattle.ats_trace.specs.Stored.{travel_at}
-use Rattle.ats_trace.specs.declared.journey.Journey.{Journey}
+use Rattle.ats_trace.specs.declared.journey.Release.{Release}
 use Rattle.ats_replay.specs.Departures.{frame_line}
 use Rattle.ats_replay.proofs.Legs.{journey_written, next_copy}
 use Rattle.ats_replay.proofs.journey.write_journey.Goals as goal
@@ -20,6 +20,6 @@ returns c =
     c.args.out.now.items c.write_frame.new.out.items c.write_leg.new.out.items c.loop-leg.out.items
     (omega (arith, c.legs-leg-end.ensures))
     (c.in_ok-write_frame.ensures
-    ∙ ap (λ (r : Journey). c.args.out.now.items ++ frame_line c.args.network.now c.args.frame r.release)
-    c.row_of-row.ensures)
+    ∙ ap (λ (r : Release). c.args.out.now.items ++ frame_line c.args.network.now c.args.frame r)
+    c.release_of-release.ensures)
     c.in_ok-write_leg.ensures c.loop-leg.invariant

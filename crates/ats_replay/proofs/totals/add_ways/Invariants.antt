@@ -5,4 +5,4 @@ use Rattle.ats_replay.proofs.totals.add_ways.Given as goal
 
 -- the totals of the frames in front and of this one's ways so far
 abbrev pub invariant-loop-leg : goal.invariant-loop-leg
-invariant-loop-leg l = l.totals ≡ totals_on (l.frame + 1) (ways_to l.network l.run l.frame l.leg)
+invariant-loop-leg g l = l.totals ≡ totals_on (l.frame + 1) (ways_to l.network (g.R.Ended.run l.run) l.frame l.leg)

@@ -4,4 +4,4 @@ use Rattle.ats_replay.proofs.totals.totals_of.Given as goal
 
 -- the totals of the frames so far
 abbrev pub invariant-loop-frame : goal.invariant-loop-frame
-invariant-loop-frame l = l.totals ≡ totals_of l.network (take l.frame l.run)
+invariant-loop-frame g l = l.totals ≡ totals_of l.network (take l.frame (g.R.Ended.run l.run))
