@@ -7,20 +7,23 @@ ghost use Rattle.ats_trace.specs.declared.run.TheConstants.{MAX_FRAMES};
 ghost use Rattle.ats_replay.specs.Report.{report_text};
 ghost use Rattle.ats_verdict_text.specs.Text.{refused_text};
 ghost use Rattle.ats_command_input.specs.Command as table;
+ghost use Rattle.ats_command_input.specs.declared.order.Order.TheVariants as order;
 ghost use Rattle.ats_command_due.specs.Calls.{Answers, ReadsFiles};
 ghost use Rattle.ats_command_due.specs.Generated.{IsGenerated, IsReportText, gen_fault_text, least_sums, made_for};
-ghost use Rattle.ats_command_due.specs.Replayed.{GivesOne};
+ghost use Rattle.ats_command_due.specs.Replayed.{GivesOne, IsRunIn};
 
-use crate::replay_command::run_in;
 use ats_bound::make;
-use ats_command_input::{FrameCount, Order, Stop, network_in};
+use ats_command_input::{FrameCount, Stop, network_in};
+use ats_engine::Engine;
+use ats_events::Up;
 use ats_gen::{GenFault, schedule};
 use ats_io::Files;
 use ats_network::Network;
-use ats_num::Failure;
+use ats_num::{Early, Failure, Least};
 use ats_replay::report;
+use ats_run_records::Ends;
 use ats_tally::Delays;
-use ats_trace::{Release, Run};
+use ats_trace::Release;
 use std::alloc::{AllocError, Global};
 
 /// The text of `generate NET SEED COUNT`: for each listener of each stream and flow what came of its frames in a run of
@@ -50,33 +53,44 @@ fn summary_of(alloc: Global, network: &Network, seed: u64, count: u32) -> Result
     ensures was_read { ¬ IsErrOf result Stop.ReadFailed }
 {
     match schedule(alloc, network, seed, count) {
-        Ok(releases) => Ok(text_of(alloc, network, &releases)?),
+        Ok(releases) => Ok(text_of(alloc, network, releases)?),
         Err(Failure::Fault(fault)) => Err(Stop::Refused(refused(alloc, fault)?)),
         Err(Failure::NoMemory) => Err(Stop::NoMemory),
     }
 }
 
 // What is printed of a run with these releases.
-fn text_of(alloc: Global, network: &Network, releases: &[Release]) -> Result<Vec<u8>, AllocError>
-    requires releases { AreReleases network.now releases.now }
-    requires few_ports { HaveFewPorts network.now releases.now }
-    ensures { IfOk result (λ text. IsReportText network.now releases.now text.items) }
+fn text_of(alloc: Global, network: &Network, releases: Vec<Release>) -> Result<Vec<u8>, AllocError>
+    requires releases { AreReleases network.now releases.items }
+    requires few_ports { HaveFewPorts network.now releases.items }
+    ensures { IfOk result (λ text. IsReportText network.now releases.items text.items) }
 {
-    let run = run_in(alloc, network, releases, Order::Early)?;
-    report_of(alloc, network, &run)
+    let ends = ends_in(alloc, network, releases)?;
+    report_of(alloc, network, &ends)
+}
+
+// How the frames of a run with exactly these releases ended, by the tie and the pace of the order `early`. No hop of
+// the run is kept.
+fn ends_in(alloc: Global, network: &Network, releases: Vec<Release>) -> Result<Ends, AllocError>
+    requires releases { AreReleases network.now releases.items }
+    requires few_ports { HaveFewPorts network.now releases.items }
+    ensures { IfOk result (λ ends. IsRunIn order.Early network.now releases.items ends) }
+{
+    let engine = Engine::open_brief(alloc, network, releases, Early, Up, Least)?;
+    Ok(engine.run_brief())
 }
 
 // What came of each sender's frames for each listener in a run, with the sums of the least bounds.
-fn report_of(alloc: Global, network: &Network, run: &Run) -> Result<Vec<u8>, AllocError>
-    requires journeys { All (IsJourney network.now) run.now }
-    ensures { IfOk result (λ text. text.items ≡ report_text network.now run.now (least_sums network.now)) }
+fn report_of(alloc: Global, network: &Network, ends: &Ends) -> Result<Vec<u8>, AllocError>
+    requires journeys { All (IsJourney network.now) ends.now }
+    ensures { IfOk result (λ text. text.items ≡ report_text network.now ends.now (least_sums network.now)) }
 {
     match make(alloc, network) {
         Ok(certificate) => {
             let delays = Delays::new(alloc, network, &certificate)?;
-            report(alloc, network, run, Some(delays.sums()))
+            report(alloc, network, ends, Some(delays.sums()))
         }
-        Err(Failure::Fault(_)) => report(alloc, network, run, None),
+        Err(Failure::Fault(_)) => report(alloc, network, ends, None),
         Err(Failure::NoMemory) => Err(AllocError),
     }
 }

@@ -9,7 +9,7 @@ use Rattle.ats_run_commands.proofs.generate_command.report_of.Goals as goal
 pub returns-in_ok-delays-in-Ok : goal.returns-in_ok-delays-in-Ok
 returns-in_ok-delays-in-Ok c =
     subst (λ (sums : Option (List ℕ)). IfOk c.report.result
-    (λ (text : Vec ℕ). text.items ≡ report_text c.args.network.now c.args.run.now sums))
+    (λ (text : Vec ℕ). text.items ≡ report_text c.args.network.now c.args.ends.now sums))
     (sym (least_sums_are c.args.network.now c.in_ok-delays-in-Ok.delays c.sums.result.now
     c.in-Ok.ensures.sound (c.in_ok-delays-in-Ok.ensures ∙ ap (rows_for c.args.network.now) c.in-Ok.ensures.value)
     c.sums.ensures)) c.report.ensures

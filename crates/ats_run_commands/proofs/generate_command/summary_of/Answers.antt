@@ -1,6 +1,4 @@
-use Rattle.std.proofs.Common.{List, subst}
-use Rattle.ats_trace.specs.declared.journey.Release.{Release}
-use Rattle.ats_command_due.specs.Generated.{IsReportText}
+use Rattle.std.proofs.Common.{subst}
 use Rattle.ats_num.specs.Failure.{IsDue}
 use Rattle.ats_num.specs.declared.failure.Failure.{Failure}
 use Rattle.ats_gen.specs.Made.{gen_fault}
@@ -15,8 +13,7 @@ returns-in_ok-text_of-in-Ok-clause-due c = (
   (
     c.in-Ok.releases.items,
     c.in-Ok.ensures.made,
-    subst (λ (rs : List Release). IsReportText c.args.network.now rs c.in_ok-text_of-in-Ok.field-0.items)
-        c.deref.ensures.value c.in_ok-text_of-in-Ok.ensures,
+    c.in_ok-text_of-in-Ok.ensures,
   ),
 )
 
