@@ -28,6 +28,9 @@ fn need_by(clock: Clock, need: u128) -> u128
     ensures { result ≡ need_by clock need }
 {
     let parts = u128::from(clock.deviation_ppm());
+    if parts == 0 {
+        return need + u128::from(clock.step_ps()); // by the ideal clock nothing is divided
+    }
     let million = u128::from(MILLION);
     let gain = parts * (need / million) + ceil_div(parts * (need % million), million);
     need + u128::from(clock.step_ps()) + gain

@@ -20,5 +20,9 @@ pub fn least_wait(ps: u128, higher: u128, tally: Tally) -> u128
 {
     let second = u128::from(PS_PER_SECOND);
     let bits = (tally.lower + tally.bursts).saturating_sub(tally.least.unwrap_or(0));
-    ceil_div(second * (ps * u128::from(bits)), second - higher)
+    let sent = ps * u128::from(bits);
+    if higher == 0 {
+        return sent; // for the highest class nothing is divided
+    }
+    ceil_div(second * sent, second - higher)
 }
