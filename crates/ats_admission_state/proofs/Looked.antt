@@ -1,9 +1,9 @@
 -- The late routes that are looked at, port by port along a path.
 use Rattle.std.proofs.Common.{◌≡◌, ℕ, ◌+◌, ◌<◌, ◌≤◌, true, false, List, [], length, get_or, take}
-use Rattle.std.proofs.Common.{Option, None, refl, sym, ap, ◌∙◌, ◌⊎◌, inl, inr, eqb, arith}
+use Rattle.std.proofs.Common.{Option, None, Some, refl, sym, ap, ◌∙◌, ◌⊎◌, inl, inr, eqb, arith}
 use Rattle.std.specs.List.{list_any}
 use Rattle.std.specs.Option.{ForSome}
-use Rattle.std.proofs.lemmas.Bool.{eq-eqb, eqb-true, or_cases, true≢false}
+use Rattle.std.proofs.lemmas.Bool.{eq-eqb, eqb-true, lt-ltb, ltb-true, or_cases, true≢false}
 use Rattle.std.proofs.lemmas.List.{length-map, take_all}
 use Rattle.std.proofs.lemmas.List.Folds.{list_any_at, list_any_more, list_any_none}
 use Rattle.std.proofs.lemmas.Option.{none-some}
@@ -13,7 +13,7 @@ use Rattle.ats_admission_users.specs.Users.{has_port, users_of}
 use Rattle.ats_admission_state.specs.Judging.{FindsFirstLate, IsLateRoute, LooksAt, is_below, meets}
 use Rattle.ats_admission_state.specs.Routes.{RouteState, is_late, no_route, ports_along, route_paths}
 use Rattle.ats_admission_state.proofs.Hops.{path_of}
-use Rattle.ats_admission_state.proofs.Users.{is_listed}
+use Rattle.ats_admission_state.proofs.Users.{is_listed, listed_split}
 
 -- no route has a port of the empty path
 meets_none : (route : RouteState) → meets [] route ≡ false
@@ -39,6 +39,11 @@ meets_more path hop port route within at met =
         inr (list_any_at (λ p. eqb p port) (ports_along route) k d h
         (eq-eqb (get_or (ports_along route) k d) port
         (sym (at ∙ eqb-true (get_or path hop 0) (get_or (ports_along route) k d) here))))
+
+-- a number that is no greater than one below what was found is below it
+below_less : (m n : ℕ) (found : Option ℕ) → m ≤ n → is_below n found ≡ true → is_below m found ≡ true
+below_less m n None less below = refl
+below_less m n (Some found) less below = lt-ltb m found (omega (arith, less, ltb-true n found below))
 
 module _ (bounds : Table ℕ) (routes : List RouteState) where
   abbrev route : ℕ → RouteState
@@ -131,3 +136,33 @@ module _ (bounds : Table ℕ) (routes : List RouteState) where
             within = omega (arith, inside, length-map routes ports_along);
             has = ap (has_port port) (path_of routes n inside) ∙ has;
           }))
+
+  -- where a user of a port is not below what was found, nor are those behind it, and all were looked at
+  pub looked_rest : (path : List ℕ) (hop port rank number : ℕ) (found : Option ℕ) → hop < length path
+      → port ≡ get_or path hop 0 → number ≡ get_or (users_of (route_paths routes) port) rank 0
+      → is_below number found ≡ false
+      → IsLooked (take hop path) (users_of (route_paths routes) port) rank found
+      → FindsFirstLate bounds routes (take (hop + 1) path) found
+  looked_rest path hop port rank number found within at is above looked =
+      looked_all path hop port (length users) found within at (omega arith) (record {
+        late = looked.late;
+        none_before = λ n inside below. by n inside below;
+      })
+    where
+      users : List ℕ
+      users = users_of (route_paths routes) port
+
+      among : (n : ℕ) → n < length routes → is_below n found ≡ true
+          → (list_any (λ q. eqb q n) (take rank users) ≡ true) ⊎ (get_or users rank 0 ≤ n)
+          → is_late bounds (route n) ≡ false
+      among n inside below (inl before) = looked.none_before n inside below (inr before)
+      among n inside below (inr behind) =
+          absurd (true≢false (sym (below_less number n found (omega (arith, is, behind)) below) ∙ above))
+
+      by : (n : ℕ) → n < length routes → is_below n found ≡ true
+          → (meets (take hop path) (route n) ≡ true) ⊎ (list_any (λ q. eqb q n) (take (length users) users) ≡ true)
+          → is_late bounds (route n) ≡ false
+      by n inside below (inl met) = looked.none_before n inside below (inl met)
+      by n inside below (inr listed) =
+          among n inside below (listed_split port 0 (route_paths routes) rank n
+          (sym (ap (λ (l : List ℕ). list_any (λ q. eqb q n) l) (take_all (length users) users (omega arith))) ∙ listed))

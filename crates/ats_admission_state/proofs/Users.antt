@@ -1,10 +1,10 @@
 -- The numbers of the paths that have a port.
-use Rattle.std.proofs.Common.{◌≡◌, ℕ, zero, suc, ◌+◌, ◌-◌, ◌<◌, Bool, true, false, cond, List, [], ◌∷◌, length, get_or}
-use Rattle.std.proofs.Common.{ap}
-use Rattle.std.proofs.Common.{◌∙◌, eqb, arith}
+use Rattle.std.proofs.Common.{◌≡◌, ℕ, zero, suc, ◌+◌, ◌-◌, ◌<◌, ◌≤◌, Bool, true, false, cond, List, [], ◌∷◌, length}
+use Rattle.std.proofs.Common.{get_or, take, sym, ap, ◌∙◌, ◌⊎◌, inl, inr, eqb, arith}
 use Rattle.std.specs.List.{All, list_any}
-use Rattle.std.proofs.lemmas.Bool.{eq-eqb, or_left, or_right}
+use Rattle.std.proofs.lemmas.Bool.{eq-eqb, eqb-true, or_cases, or_left, or_right, true≢false}
 use Rattle.std.proofs.lemmas.List.Elements.{All-weaker}
+use Rattle.ats_tally.proofs.Lists.{any_gives}
 use Rattle.ats_admission_users.proofs.UserLemmas as lists
 use Rattle.ats_admission_users.specs.Users.{has_port, users_from, users_of}
 
@@ -50,3 +50,45 @@ module _ (port : ℕ) where
   is_listed paths m u =
       let same : m ≡ 0 + m = omega arith in
       ap (λ (n : ℕ). list_any (λ q. eqb q n) (users_of paths port)) same ∙ listed_from 0 paths m u.within u.has
+
+  -- a number that is listed is no less than the first
+  from_first : (n : ℕ) (paths : List (List ℕ)) (m : ℕ) → list_any (λ q. eqb q m) (users_from n port paths) ≡ true
+      → n ≤ m
+  from_first n paths m listed =
+      any_gives (λ q. eqb q m) (n ≤ m) (users_from n port paths)
+      (λ k d h e. omega (
+        arith,
+        (lists.users_have n port paths k d h).from,
+        eqb-true (get_or (users_from n port paths) k d) m e,
+      )) listed
+
+  -- the numbers that are listed ascend: one is among those before a place, or no less than that at the place
+  pub listed_split : (n : ℕ) (paths : List (List ℕ)) (rank m : ℕ)
+      → list_any (λ q. eqb q m) (users_from n port paths) ≡ true
+      → (list_any (λ q. eqb q m) (take rank (users_from n port paths)) ≡ true)
+      ⊎ (get_or (users_from n port paths) rank 0 ≤ m)
+  listed_split n [] rank m listed = absurd (true≢false (sym listed))
+  listed_split n (path ∷ paths) rank m listed =
+      by (has_port port path) rank (λ at. listed_split (n + 1) paths at m) listed
+    where
+      rest : List ℕ
+      rest = users_from (n + 1) port paths
+
+      Split : List ℕ → ℕ → Type 0
+      Split users at = (list_any (λ q. eqb q m) (take at users) ≡ true) ⊎ (get_or users at 0 ≤ m)
+
+      next : (at : ℕ) → Split rest at → Split (n ∷ rest) (suc at)
+      next at (inl before) = inl (or_right (eqb n m) (list_any (λ q. eqb q m) (take at rest)) before)
+      next at (inr below) = inr below
+
+      first : (at : ℕ) → ((k : ℕ) → list_any (λ q. eqb q m) rest ≡ true → Split rest k)
+          → (eqb n m ≡ true) ⊎ (list_any (λ q. eqb q m) rest ≡ true) → Split (n ∷ rest) at
+      first zero splits (inl here) = inr (omega (arith, eqb-true n m here))
+      first zero splits (inr later) = inr (omega (arith, from_first (n + 1) paths m later))
+      first (suc at) splits (inl here) = inl (or_left (eqb n m) (list_any (λ q. eqb q m) (take at rest)) here)
+      first (suc at) splits (inr later) = next at (splits at later)
+
+      by : (b : Bool) (at : ℕ) → ((k : ℕ) → list_any (λ q. eqb q m) rest ≡ true → Split rest k)
+          → list_any (λ q. eqb q m) (cond b (n ∷ rest) rest) ≡ true → Split (cond b (n ∷ rest) rest) at
+      by true at splits there = first at splits (or_cases (eqb n m) (list_any (λ q. eqb q m) rest) there)
+      by false at splits there = splits at there

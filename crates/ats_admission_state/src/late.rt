@@ -1,12 +1,12 @@
 //! Routes whose sum of bounds is over their deadline.
 
-ghost use Rattle.std.specs.Prelude.{◌≡◌, ◌+◌, ◌<◌, ◌≤◌, nat_le, List, ℕ, [], length, slice_index_or, take, All};
-ghost use Rattle.std.specs.List.{list_any};
+ghost use Rattle.std.specs.Prelude.{◌≡◌, ◌+◌, ◌<◌, ◌≤◌, List, ℕ, length, slice_index_or, take, All};
 ghost use Rattle.ats_admission_users.specs.Users.{ListsPaths};
 ghost use Rattle.ats_admission_state.specs.Judging.{FindsFirstLate, LooksAt, is_below};
 ghost use Rattle.ats_admission_state.specs.Routes.{AreBounded, is_late, no_route, route_paths};
 ghost use Rattle.ats_admission_state.specs.Spares.{AreSpares};
 
+use crate::busy::has_busy;
 use crate::routes::Route;
 use ats_admission_users::PortUsers;
 use ats_class_table::PortClassTable;
@@ -29,24 +29,11 @@ pub(crate) fn find_late(
     ensures found { FindsFirstLate bounds.now routes.now path.now result }
     ensures spares { AreSpares bounds.now routes.now spares.new }
 {
-    if is_busy(users, path, routes.len() / 4) {
+    if has_busy(users, path, routes.len()) {
         first_of_all(bounds, spares, routes)
     } else {
         first_near(bounds, spares, routes, users, path)
     }
-}
-
-// Whether a port of a path is had by so many others at least.
-fn is_busy(users: &PortUsers, path: &[u32], many: usize) -> bool
-    requires { All (λ p. p < length users.now.lists) path.now }
-    ensures { result ≡ list_any (λ p. nat_le many (length (slice_index_or users.now.lists p []))) path.now }
-{
-    for port in path {
-        if users.count(*port) >= many {
-            return true;
-        }
-    }
-    false
 }
 
 // The late route with the lowest number.
@@ -111,6 +98,9 @@ fn first_to(
     let mut found = before;
     for rank in 0..users.count(port) {
         let number = users.user(port, rank);
+        if !is_below(number, found) {
+            return found; // nor are those behind it, whose numbers are greater
+        }
         found = look_at(bounds, spares, routes, number, found);
     }
     found

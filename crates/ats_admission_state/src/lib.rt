@@ -1,6 +1,7 @@
 //! What is kept of a network that streams enter and leave, so that each is judged along its own ports.
 #![tactic(auto)]
 
+mod busy;
 mod entering;
 pub mod kept;
 mod late;

@@ -6,6 +6,7 @@ ghost use Rattle.ats_admission_users.specs.Users.{ListsPaths, users_of};
 ghost use Rattle.ats_admission_state.specs.Judging.{KeepsOthers};
 ghost use Rattle.ats_admission_state.specs.Spares.{AreLowered, AreUsers, KeepSpares};
 
+use crate::busy::is_busy;
 use ats_admission_users::PortUsers;
 use ats_class_table::{CLASSES, PortClassTable};
 
@@ -53,15 +54,15 @@ fn rise_over(bounds: &PortClassTable<u128>, port: u32, before: &[u128; CLASSES])
     rise
 }
 
-// Lowers the spares of the routes that have a port by so much, to 0 where they are less. Where a quarter of all routes
-// have it, all are lowered: that is sooner done.
+// Lowers the spares of the routes that have a port by so much, to 0 where they are less. Where the port is busy, all
+// are lowered: that is sooner done.
 fn lower(spares: &mut [u64], users: &PortUsers, port: u32, rise: u128)
     requires port { port < length users.now.lists }
     requires users { AreUsers (length spares.old) users.now }
     ensures { (paths : List (List ℕ)) → ListsPaths (length users.now.lists) paths users.now
         → AreLowered (users_of paths port) rise spares.old spares.new }
 {
-    if users.count(port) >= spares.len() / 4 {
+    if is_busy(users, port, spares.len()) {
         lower_all(spares, rise);
     } else {
         lower_users(spares, users, port, rise);

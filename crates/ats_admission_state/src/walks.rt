@@ -53,7 +53,7 @@ pub(crate) fn renew_path(
     ensures least { AreLeast network.now bounds.new }
     ensures spares { KeepSpares users.now bounds.old bounds.new spares.old spares.new }
 {
-    let _ = network.streams(); // by these the network keeps its rules
+    let _rules = network.streams(); // for what a network keeps
     for port in path {
         let before = bounds_at(bounds, *port);
         renew_port(bounds, network, *port, &shares.tallies(network, *port));

@@ -1,8 +1,8 @@
-use Rattle.std.proofs.Common.{◌<◌, ℕ, List, length, get_or, take, refl, arith}
+use Rattle.std.proofs.Common.{◌<◌, ℕ, List, length, get_or, take, refl, sym, ◌∙◌, arith}
 use Rattle.std.proofs.lemmas.List.{length-map}
 use Rattle.ats_admission_users.specs.Users.{users_of}
 use Rattle.ats_admission_state.specs.Routes.{RouteState, ports_along, route_paths}
-use Rattle.ats_admission_state.proofs.Looked.{looked_all, looked_at}
+use Rattle.ats_admission_state.proofs.Looked.{looked_all, looked_at, looked_rest}
 use Rattle.ats_admission_state.proofs.late.first_to.Goals as goal
 
 pub look_at-found-requires-clause-number : goal.look_at-found-requires-clause-number
@@ -36,3 +36,10 @@ returns-clause-found c =
     looked_all c.args.bounds.now c.args.routes.now c.args.path.now c.args.hop (get_or c.args.path.now c.args.hop 0)
     c.loop-rank.rank c.loop-rank.found c.requires.hop refl (omega (arith, many, c.loop-rank-test.false))
     c.loop-rank.invariant.looked
+
+pub returns-then-not-is_below-clause-found : goal.returns-then-not-is_below-clause-found
+returns-then-not-is_below-clause-found c =
+    looked_rest c.args.bounds.now c.args.routes.now c.args.path.now c.args.hop (get_or c.args.path.now c.args.hop 0)
+    c.loop-rank.rank c.user-number.result c.loop-rank.found c.requires.hop refl
+    (c.user-number.ensures.value (length c.args.users.now.lists) (route_paths c.args.routes.now) c.requires.users)
+    (sym c.is_below.ensures ∙ c.if-not-is_below.true) c.loop-rank.invariant.looked

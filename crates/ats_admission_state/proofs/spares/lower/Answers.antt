@@ -1,5 +1,5 @@
 use Rattle.ats_admission_users.specs.Users.{users_of}
 use Rattle.ats_admission_state.proofs.spares.lower.Goals as goal
 
-pub returns-then-count-spares : goal.returns-then-count-spares
-returns-then-count-spares c = λ paths lists. c.lower_all.ensures (users_of paths c.args.port)
+pub returns-then-is_busy : goal.returns-then-is_busy
+returns-then-is_busy c = λ paths lists. c.lower_all.ensures (users_of paths c.args.port)
