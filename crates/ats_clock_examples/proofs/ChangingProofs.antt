@@ -1,4 +1,4 @@
-use Rattle.std.proofs.Common.{◌≡◌, ℕ, ◌+◌, ◌-◌, ◌*◌, ◌<◌, ◌≤◌, max, true, List, [], ◌∷◌, map, ◌∙◌, inl, inr, get_or}
+use Rattle.std.proofs.Common.{◌≡◌, ℕ, ◌+◌, ◌-◌, ◌*◌, ◌≤◌, max, true, List, [], ◌∷◌, map, ◌∙◌, inl, inr, get_or}
 use Rattle.std.proofs.Common.{refl, sym, ap, subst, arith, lit<, lit≤}
 use Rattle.std.specs.Prelude.{ℤ, nat_le, zip}
 use Rattle.std.specs.List.{AllZip}

@@ -20,3 +20,4 @@ pub mod RateTextProofs
 pub mod FileLimitProofs
 pub mod IdealProofs
 pub mod ExplainProofs
+pub mod FittedProofs

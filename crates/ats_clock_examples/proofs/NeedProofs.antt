@@ -38,6 +38,7 @@ needs_are_rounded = record {
   needs = record { both = refl; deviation = refl; step = refl; neither = refl; whole = refl };
   stays = record {
     short = short_by 11673 100 8000 11673167 (staying_is 11673 100 8000 refl refl) refl (λ same. omega (arith, same));
+    refused = refl;
     fits = bounded (staying 11674 100 8000) slow_line_rows (staying_is 11674 100 8000 refl refl) refl refl refl;
     free = refl;
     short_without_step =

@@ -18,3 +18,4 @@ pub mod RateTexts
 pub mod FileLimits
 pub mod IdealClocks
 pub mod Explained
+pub mod Fitted

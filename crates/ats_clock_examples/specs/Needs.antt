@@ -1,4 +1,4 @@
-use Rattle.std.specs.Prelude.{◌≡◌, ℕ, List, [], ◌∷◌, codes, None}
+use Rattle.std.specs.Prelude.{◌≡◌, ℕ, List, [], ◌∷◌, codes, Some, None}
 use Rattle.ats_clock.specs.Clock.{declared_clock}
 use Rattle.ats_topology.specs.Topology.{topology_of}
 use Rattle.ats_topology.specs.declared.node.Kind.TheVariants.{Bridge}
@@ -7,6 +7,8 @@ use Rattle.ats_network.specs.Network.{DeclaredNetwork, IsNetwork, declared_netwo
 use Rattle.ats_certificate.specs.Certificate.{need_by}
 use Rattle.ats_tally.specs.declared.reason.Reason.TheVariants.{Residence}
 use Rattle.ats_bound.specs.Reason.{reason_of}
+use Rattle.ats_checker.specs.Refusal.{refusal_of}
+use Rattle.ats_checker.specs.declared.refusal.Refusal.TheVariants.{Network}
 use Rattle.ats_examples.specs.ClockedRuns.{slow_line_rows}
 use Rattle.ats_examples.specs.Networks.{line_links, station, stream}
 use Rattle.ats_tree_examples.specs.Bounds.{HasReason, IsBounded}
@@ -40,9 +42,11 @@ pub record NeedsAreWorked : Type 0 where
   pub whole : need_by (declared_clock 100 8000) 11670000 ≡ 11679167
 
 -- the frames of the line may have to wait so long at the station's port: with each of these clocks the reason against
--- a residence 1 ns shorter than just fits is this need, and not that of true time
+-- a residence 1 ns shorter than just fits is this need, and not that of true time; and so is the need for which the
+-- rows are refused
 pub record StaysAreJudged : Type 0 where
   pub short : HasReason (staying 11673 100 8000) (Residence 0 6 11673167) (Residence 0 6 11664000)
+  pub refused : refusal_of (staying 11673 100 8000) slow_line_rows ≡ Some (Network (Residence 0 6 11673167))
   pub fits : IsBounded (staying 11674 100 8000) slow_line_rows
   pub free : reason_of (staying 11674 100 8000) ≡ None
   pub short_without_step : HasReason (staying 11665 100 0) (Residence 0 6 11665167) (Residence 0 6 11664000)

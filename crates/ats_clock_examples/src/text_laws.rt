@@ -1,7 +1,8 @@
-//! What is printed of rates and of stays that clocks change, and which rates a file may declare.
+//! What is printed of rates, stays and least bursts where clocks are not ideal, and which rates a file may declare.
 
 ghost use Rattle.ats_clock_examples.specs.Explained.{ExplainedByClocks};
 ghost use Rattle.ats_clock_examples.specs.FileLimits.{FilesKeepLimits};
+ghost use Rattle.ats_clock_examples.specs.Fitted.{FitsAreInTrueTime};
 ghost use Rattle.ats_clock_examples.specs.RateTexts.{ChangedRatesAreShown};
 
 /// A stream has a line of rates where a rate or a burst at one of its ports is another than it declares, whatever
@@ -20,4 +21,9 @@ pub fn files_keep_limits()
 /// among the totals.
 pub fn explained_by_clocks()
     ensures { ExplainedByClocks }
+{}
+
+/// What `fit` prints of a talker's stream, the least burst, the declared one and who is over, asks no clock.
+pub fn fits_are_in_true_time()
+    ensures { FitsAreInTrueTime }
 {}
