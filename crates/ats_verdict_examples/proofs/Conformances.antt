@@ -51,7 +51,7 @@ release_by network r h =
       octets = record { least = le_of 64 r.octets third.0; most = le_of r.octets 2000 third.1 };
     }
 
-may_be_run : (network : DeclaredNetwork) (releases : List Release) → nat_le (length releases) 200000 ≡ true
+pub may_be_run : (network : DeclaredNetwork) (releases : List Release) → nat_le (length releases) 200000 ≡ true
     → pairs_pass nat_le (times releases) ≡ true → list_all (is_release network) releases ≡ true
     → AreReleases network releases
 may_be_run network releases few ordered each = record {
@@ -61,7 +61,7 @@ may_be_run network releases few ordered each = record {
 }
 
 -- each stream conforms, and each release has a declared size, so each node keeps its buckets
-all_keep_by : (network : DeclaredNetwork) (releases : List Release)
+pub all_keep_by : (network : DeclaredNetwork) (releases : List Release)
     → each_below (stream_conforms network releases) (length network.streams) ≡ true
     → list_all (is_sized network) releases ≡ true → AllKeepBuckets network releases
 all_keep_by network releases conform sized station = record {
@@ -266,7 +266,7 @@ breaks_short = record {
 }
 
 -- the frame from which on the bucket is exceeded
-abbrev since_of : Broken → ℕ
+abbrev pub since_of : Broken → ℕ
 since_of (Size frame) = frame
 since_of (Bucket since frame) = since
 

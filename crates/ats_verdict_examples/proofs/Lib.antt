@@ -3,6 +3,7 @@ pub mod Captures
 pub mod CausesFirst
 pub mod Conformances
 pub mod Explanations
+pub mod FirstBreaks
 pub mod Less
 pub mod Making
 pub mod NetworkProofs

@@ -1,5 +1,6 @@
 pub mod Networks
 pub mod Conformance
+pub mod FirstBroken
 pub mod Reasons
 pub mod Refusals
 pub mod Explained

@@ -4,6 +4,7 @@ ghost use Rattle.ats_verdict_examples.specs.Admitted.{StreamsAreAdmitted};
 ghost use Rattle.ats_verdict_examples.specs.Captured.{CapturesAreMet};
 ghost use Rattle.ats_verdict_examples.specs.Conformance.{ConformanceIsMet};
 ghost use Rattle.ats_verdict_examples.specs.Explained.{ExplanationsAreMet};
+ghost use Rattle.ats_verdict_examples.specs.FirstBroken.{BrokenAreMeant, FirstBrokenIsNamed};
 ghost use Rattle.ats_verdict_examples.specs.FirstCauses.{CausesAreFirst};
 ghost use Rattle.ats_verdict_examples.specs.Made.{MakingIsMet};
 ghost use Rattle.ats_verdict_examples.specs.OneLess.{AdmissionIsMet};
@@ -20,6 +21,19 @@ use ats_explain::laws::{clear_where_one_holds, each_stream_adds_up};
 /// at once, of declared sizes.
 pub fn conformance_is_met()
     ensures { ConformanceIsMet }
+{}
+
+/// A law, of any releases to any network, both ways: what is named is the first frame by which some node does not keep
+/// its buckets; for its size where that is not declared, and else since the frame that is worst by the rate and the
+/// burst of its own sender.
+pub fn broken_are_meant()
+    ensures { BrokenAreMeant }
+{}
+
+/// Of two streams of different rates the bucket of the faster is exceeded since the frame that is worst by its own
+/// rate; and of a frame that breaks its bucket and one that breaks a size, the first is named.
+pub fn first_broken_is_named()
+    ensures { FirstBrokenIsNamed }
 {}
 
 /// A network with each of the three reasons, which is the first against it, so that no certificate holds; and one a
