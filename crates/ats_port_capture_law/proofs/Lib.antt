@@ -1,4 +1,5 @@
 pub mod Answered
+pub mod Meant
 pub mod Members
 pub mod One
 pub mod Order

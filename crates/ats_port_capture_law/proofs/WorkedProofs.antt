@@ -23,7 +23,7 @@ use Rattle.ats_pcap.specs.Capture.{records_of}
 use Rattle.ats_pcap.specs.Identity.{address_of, identity_of}
 use Rattle.ats_pcap.specs.Numbers.{number16, number32}
 use Rattle.ats_port_capture_law.specs.Worked.{PortCapturesAreWorked, at_13836, at_26172, at_second, at_start}
-use Rattle.ats_port_capture_law.specs.Worked.{before_second}
+use Rattle.ats_port_capture_law.specs.Worked.{at_12336, before_second, before_size}
 use Rattle.ats_port_capture_law.specs.Worked.{front_bytes, header_bytes, of_class, of_classes, sender_bytes}
 use Rattle.ats_port_capture_law.specs.Worked.{split_of_classes, with_frame}
 
@@ -98,6 +98,31 @@ one_untagged = header_bytes ++ front_bytes at_13836 14 ++ sender_bytes 0
 abbrev two_untagged : List ℕ
 two_untagged = header_bytes ++ front_bytes at_13836 14 ++ sender_bytes 1 ++ front_bytes at_26172 14 ++ sender_bytes 0
 
+-- a frame that the bridge discards for its size
+before_size_is : IsCapture line long_frame 0 before_size
+unfolding header record_bytes tagged untagged high_first16 high_first32 high_first48 low_first16 low_first32
+before_size_is = short line long_frame 0 before_size (lit≤ tt) refl refl
+
+-- and two frames, of which it discards the second as late
+abbrev both_sent : List ℕ
+both_sent = header_bytes ++ front_bytes at_start 14 ++ sender_bytes 0 ++ front_bytes at_12336 14 ++ sender_bytes 0
+
+before_late_is : IsCapture line late 0 both_sent
+unfolding header record_bytes tagged untagged high_first16 high_first32 high_first48 low_first16 low_first32
+before_late_is =
+    let sent : List Transmission = sent_by line late 0 in
+    record {
+      sent = sent;
+      ordered = record {
+        all = IsPermutation-refl sent;
+        in_order = IsNonDecreasingBy-push (λ (t : Transmission). t.start) (take 1 sent) _
+            (IsNonDecreasingBy-short (λ (t : Transmission). t.start) (take 1 sent) (lit≤ tt)) (λ d some. lit≤ tt);
+        fit = λ k d within. ltb-true (nanos_of (get_or sent k d) / 1_000_000_000) (2 ^ 32)
+            (AllPass-from_list_all seconds_fit sent refl k d within);
+      };
+      written = refl;
+    }
+
 late_is : IsCapture line late 2 one_untagged
 unfolding header record_bytes tagged untagged high_first16 high_first32 high_first48 low_first16 low_first32
 late_is = short line late 2 one_untagged (lit≤ tt) refl refl
@@ -142,5 +167,7 @@ port_captures_are_worked = record {
   trunk = trunk_is;
   copied = copied_is;
   copy_discarded = copy_discarded_is;
+  before_discard = before_size_is;
+  before_late = before_late_is;
   read = read_is;
 }

@@ -49,9 +49,12 @@ sender_bytes sender = 6 ∷ 0 ∷ 0 ∷ 0 ∷ 0 ∷ sender ∷ 2 ∷ 0 ∷ 0 ∷
 abbrev pub front_bytes : List ℕ → ℕ → List ℕ
 front_bytes time captured = time ++ captured ∷ 0 ∷ 0 ∷ 0 ∷ 0xEE ∷ 5 ∷ 0 ∷ 0 ∷ []
 
--- the times 0, 13836 ns and 26172 ns, 999999999 ns, and 1 s
+-- the times 0, 12336 ns, 13836 ns and 26172 ns, 999999999 ns, and 1 s
 abbrev pub at_start : List ℕ
 at_start = 0 ∷ 0 ∷ 0 ∷ 0 ∷ 0 ∷ 0 ∷ 0 ∷ 0 ∷ []
+
+abbrev pub at_12336 : List ℕ
+at_12336 = 0 ∷ 0 ∷ 0 ∷ 0 ∷ 0x30 ∷ 0x30 ∷ 0 ∷ 0 ∷ []
 
 abbrev pub at_13836 : List ℕ
 at_13836 = 0 ∷ 0 ∷ 0 ∷ 0 ∷ 0x0C ∷ 0x36 ∷ 0 ∷ 0 ∷ []
@@ -69,10 +72,15 @@ at_second = 1 ∷ 0 ∷ 0 ∷ 0 ∷ 0 ∷ 0 ∷ 0 ∷ 0 ∷ []
 abbrev pub with_frame : List ℕ → ℕ → List ℕ
 with_frame time tag = header_bytes ++ front_bytes time 18 ++ stream_bytes tag
 
+-- and with one of 1523 octets, which the bridge discards; a capture has 1519 of them
+abbrev pub before_size : List ℕ
+before_size = header_bytes ++ at_start ++ 14 ∷ 0 ∷ 0 ∷ 0 ∷ 0xEF ∷ 5 ∷ 0 ∷ 0 ∷ sender_bytes 0
+
 -- one frame of 1522 octets over the line, captured at each of its ports, and at one that sent nothing; the tag has the
 -- class at that port. A start is rounded down to a nanosecond. Of senders without an address the number is told, the
--- one that is sent first goes first, and a frame that is discarded before the port is not told of. Of a frame over the
--- split, the port in front of the bridge has one record for both listeners, and that of the branch the copy's
+-- one that is sent first goes first, and a frame that is discarded before the port is not told of, while one that the
+-- next bridge discards is, for its size or as late. Of a frame over the split, the port in front of the bridge has one
+-- record for both listeners, and that of the branch the copy's
 pub record PortCapturesAreWorked : Type 0 where
   pub first : IsCapture of_class one_frame 0 (with_frame at_start 0xC0)
   pub second : IsCapture of_class one_frame 2 (with_frame at_13836 0xC0)
@@ -88,5 +96,8 @@ pub record PortCapturesAreWorked : Type 0 where
   pub trunk : IsCapture split_of_classes one_split 2 (with_frame at_13836 0xC0)
   pub copied : IsCapture split_of_classes one_split 4 (with_frame at_13836 0xA0)
   pub copy_discarded : IsCapture split long_split 4 header_bytes
+  pub before_discard : IsCapture line long_frame 0 before_size
+  pub before_late : IsCapture line late 0 (header_bytes ++ front_bytes at_start 14 ++ sender_bytes 0
+      ++ front_bytes at_12336 14 ++ sender_bytes 0)
   pub read : records_of (with_frame at_13836 0xA0)
       ≡ Ok (record { nanos = 13836; octets = 1522; identity = Some (0x020000000001, 1) } ∷ [])
