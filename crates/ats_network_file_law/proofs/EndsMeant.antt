@@ -1,11 +1,13 @@
--- What a route by its ends is.
+-- What a route by its ends is, and one by the nodes along it.
 use Rattle.std.proofs.Common.{◌≡◌, ◌∙◌, ℕ, List, Option, None, Some, refl, ap}
 use Rattle.std.specs.Prelude.{option_and_then}
 use Rattle.ats_num.specs.Places.{place_of}
 use Rattle.ats_topology.specs.Node.{names_of}
 use Rattle.ats_topology.specs.Topology.{DeclaredTopology}
 use Rattle.ats_network.specs.Shortest.{shortest_of}
-use Rattle.ats_network_file_law.specs.Ends.{EndsAreMeant}
+use Rattle.ats_network_file_law.specs.Ends.{EndsAreMeant, PathsAreMeant}
+use Rattle.ats_network_file_law.proofs.Accepted.{no_fault}
+use Rattle.ats_network_file_law.proofs.WrittenPaths.{path_back}
 
 -- by the places of both
 abbrev between : DeclaredTopology → Option ℕ → Option ℕ → Option (List ℕ)
@@ -26,3 +28,7 @@ ends_are_meant topology from to =
       no_last = λ last. ap (λ (o : Option ℕ). between topology (place_of from names) o) last
           ∙ no_last topology (place_of from names);
     }
+
+-- and what a route by the nodes along it is
+pub paths_are_meant : PathsAreMeant
+paths_are_meant nodes links ports is once valid = path_back nodes links ports (no_fault nodes links is once) valid

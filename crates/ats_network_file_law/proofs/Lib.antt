@@ -3,6 +3,8 @@ pub mod Routed
 pub mod Entries
 pub mod FoundFaults
 pub mod FirstFaults
+pub mod Accepted
+pub mod AcceptedSenders
 pub mod Ends
 pub mod SenderSteps
 pub mod SenderWalks

@@ -1,6 +1,7 @@
 pub mod Entries
 pub mod First
 pub mod TopologyFaults
+pub mod Accepted
 pub mod SenderFaults
 pub mod Limits
 pub mod FormFaults

@@ -1,7 +1,8 @@
 //! What is proved of the definitions themselves.
 
+ghost use Rattle.ats_network_file_law.specs.Accepted.{SendersAreAccepted, TopologiesAreAccepted};
 ghost use Rattle.ats_network_file_law.specs.EachPort.{EachPortHasItsSender};
-ghost use Rattle.ats_network_file_law.specs.Ends.{EndsAreMeant};
+ghost use Rattle.ats_network_file_law.specs.Ends.{EndsAreMeant, PathsAreMeant};
 ghost use Rattle.ats_network_file_law.specs.Entries.{EachEntryStands};
 ghost use Rattle.ats_network_file_law.specs.FormFaults.{FormFaultIsTheFirst};
 ghost use Rattle.ats_network_file_law.specs.FormatNumber.{EachHasItsNumber};
@@ -47,6 +48,18 @@ pub fn topology_fault_is_the_first()
     ensures { TopologyFaultIsTheFirst }
 {}
 
+/// A law: nodes and links have no fault exactly where they make a topology and no two links join the same nodes: what
+/// each topology keeps is all that is asked of them beside.
+pub fn topologies_are_accepted()
+    ensures { TopologiesAreAccepted }
+{}
+
+/// A law: a stream or a flow that a network may have as its last has no fault there, and breaks no rule; what each
+/// network keeps is all that is asked of it beside its route.
+pub fn senders_are_accepted()
+    ensures { SendersAreAccepted }
+{}
+
 /// A law: a document whose nodes and links have no fault gives a fault exactly where it is the first of
 /// its streams, those for each port behind the others, and then of its flows: an entry's routes, its rules, its name,
 /// its identity, and last the number of those before it, or of the ports of streams. It names the entry by its table
@@ -84,6 +97,12 @@ pub fn one_listener_is_by_path()
 /// however many these are; where one of them names no node, or no walk leads there, it has none.
 pub fn ends_are_meant()
     ensures { EndsAreMeant }
+{}
+
+/// A law: the ports of a route by the nodes along it are those of the path through these nodes, whichever valid path it
+/// is, and not only where it is the walk of fewest ports.
+pub fn paths_are_meant()
+    ensures { PathsAreMeant }
 {}
 
 /// A law: the routes from one node, as they are found by the ends alone, are those of a tree where each of them is a
