@@ -3,6 +3,10 @@ pub mod Runs
 pub mod Outside
 pub mod Captured
 pub mod ShortRoutes
+pub mod Routes
 pub mod FaultOrders
+pub mod Requests
 pub mod EachEntry
 pub mod Refused
+pub mod Shapes
+pub mod Metered

@@ -3,9 +3,13 @@
 ghost use Rattle.ats_edge_examples.specs.Captured.{SenderIsCaptured};
 ghost use Rattle.ats_edge_examples.specs.EachEntry.{EachEntryCounts};
 ghost use Rattle.ats_edge_examples.specs.FaultOrders.{FaultsAreInOrder};
+ghost use Rattle.ats_edge_examples.specs.Metered.{FramesAreNumbered};
 ghost use Rattle.ats_edge_examples.specs.Outside.{OutsideIsAtEdges};
 ghost use Rattle.ats_edge_examples.specs.Refused.{RefusalsAreTold};
+ghost use Rattle.ats_edge_examples.specs.Requests.{LinesAreJudgedByThemselves};
+ghost use Rattle.ats_edge_examples.specs.Routes.{RoutesAreMeant};
 ghost use Rattle.ats_edge_examples.specs.Runs.{RunsAreAtEdges};
+ghost use Rattle.ats_edge_examples.specs.Shapes.{ShapesAreAtEdges};
 ghost use Rattle.ats_edge_examples.specs.ShortRoutes.{RoutesAreAtEdges};
 ghost use Rattle.ats_edge_examples.specs.Texts.{TextsAreAtEdges};
 
@@ -38,9 +42,21 @@ pub fn routes_are_at_edges()
     ensures { RoutesAreAtEdges }
 {}
 
+/// A law: legs have some routes where they are those of branches, make a tree, and lead along just these, be a route
+/// the least walk between its ends or not; and formats 1 and 2 may declare routes between stations, and format 3 any.
+pub fn routes_are_meant()
+    ensures { RoutesAreMeant }
+{}
+
 /// A stream or a flow that breaks a rule, and whose route is over the limit too, has the fault of the rule.
 pub fn faults_are_in_order()
     ensures { FaultsAreInOrder }
+{}
+
+/// A law: a line that asks for a stream is judged by the rules of each stream and the limit on its route alone; that
+/// its rate or its burst is over the limits of a scheduler by the clocks on its way is no fault of the line.
+pub fn lines_are_judged_by_themselves()
+    ensures { LinesAreJudgedByThemselves }
 {}
 
 /// Which network is that of a file's tables: one in which a number of a stream or a flow, a class, a route, a node or a
@@ -53,4 +69,15 @@ pub fn each_entry_counts()
 /// port and by the wait of its row, sums of other classes, and a need by the waits of the rows.
 pub fn refusals_are_told()
     ensures { RefusalsAreTold }
+{}
+
+/// Since when the residence of a frame counts with a length-rate-quotient regulator, how the numbers of a stream line
+/// are written, and that the first frame counts in the totals as all others do.
+pub fn shapes_are_at_edges()
+    ensures { ShapesAreAtEdges }
+{}
+
+/// A law: a meter of `conform` takes the frames of its sender, each by its number among all releases.
+pub fn frames_are_numbered()
+    ensures { FramesAreNumbered }
 {}

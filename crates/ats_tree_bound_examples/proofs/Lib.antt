@@ -4,5 +4,6 @@ pub mod RefusalProofs
 pub mod ExplainedProofs
 pub mod SettingsProofs
 pub mod SetAlikeProofs
+pub mod FileOrderProofs
 pub mod TextProofs
 pub mod RunTextProofs

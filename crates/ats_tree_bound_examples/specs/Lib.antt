@@ -4,6 +4,7 @@ pub mod Refusals
 pub mod Explained
 pub mod Settings
 pub mod SetAlike
+pub mod FileOrder
 pub mod Texts
 pub mod OrderTexts
 pub mod RunTexts

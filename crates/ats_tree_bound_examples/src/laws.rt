@@ -2,6 +2,7 @@
 
 ghost use Rattle.ats_tree_bound_examples.specs.InTime.{DeadlinesAreForEach};
 ghost use Rattle.ats_tree_bound_examples.specs.Explained.{TotalsAreOfEach};
+ghost use Rattle.ats_tree_bound_examples.specs.FileOrder.{AllIsInFileOrder};
 ghost use Rattle.ats_tree_bound_examples.specs.Promised.{FramesAreForEach, SoundIsForEach};
 ghost use Rattle.ats_tree_bound_examples.specs.RateTexts.{RatesAreShown};
 ghost use Rattle.ats_tree_bound_examples.specs.RunTexts.{RunsAreWritten};
@@ -69,6 +70,13 @@ pub fn explanation_is_written()
 /// What bridges are told: a setting for each port by which frames go on, with one scheduler for all of a bridge.
 pub fn bridges_are_told()
     ensures { BridgesAreTold }
+{}
+
+/// A law, with worked cases: `show` and `explain` tell streams and flows in the order of the file, whatever their names
+/// are; each listener that is late counts, and the first of the tightest is told; and settings are by bridge, port,
+/// class and sender, each by its number.
+pub fn all_is_in_file_order()
+    ensures { AllIsInFileOrder }
 {}
 
 /// What the laws of settings ask can be met by two networks that differ, with frames that are longer than is declared,
