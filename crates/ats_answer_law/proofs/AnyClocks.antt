@@ -9,8 +9,12 @@ no_clock_is_asked = record {
   );
   over_port = λ network octets p. refl;
   travel = λ network port s. refl;
+  greatest = λ network port. refl;
+  time = λ network port class s. refl;
   count = λ port class s. refl;
   burst = λ network port class i. refl;
+  stream = λ network frame. refl;
+  octets = λ network seed frame. refl;
   none_made = λ network seed. refl;
   made_next = λ network seed frame. refl;
 }

@@ -21,3 +21,7 @@ pub mod FileFaults
 pub mod DueMeaning
 pub mod SameTexts
 pub mod AnyClocks
+pub mod FirstCauses
+pub mod Places
+pub mod Witnesses
+pub mod PromisedRuns

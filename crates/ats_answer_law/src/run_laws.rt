@@ -1,8 +1,10 @@
 //! What the words come to that say which runs, peaks, releases and delays are due.
 
 ghost use Rattle.ats_answer_law.specs.AnyClocks.{NoClockIsAsked};
+ghost use Rattle.ats_answer_law.specs.PromisedRuns.{PromisedRunsAreMeant};
 ghost use Rattle.ats_answer_law.specs.RunMeaning.{FoundAreMeant, MadeAreMeant, OrdersAreMeant};
 ghost use Rattle.ats_answer_law.specs.RunMeaning.{PeaksAreMeant, RunsAreMeant};
+ghost use Rattle.ats_answer_law.specs.Witnesses.{WitnessesAreMeant};
 
 /// The key and the wait of each order, of any sender, frame and spread.
 pub fn orders_are_meant()
@@ -34,4 +36,16 @@ pub fn found_are_meant()
 /// declare.
 pub fn no_clock_is_asked()
     ensures { NoClockIsAsked }
+{}
+
+/// A text is due to `witness` just where it writes, for each listener, what the runs of the bursts along the route
+/// there show, beside the sum of the least bounds.
+pub fn witnesses_are_meant()
+    ensures { WitnessesAreMeant }
+{}
+
+/// The runs of which `check` and `lrq check` promise something are the legal ones, in which nodes keep their own
+/// buckets or spacing; and what sound bounds promise in them, from stations too.
+pub fn promised_runs_are_meant()
+    ensures { PromisedRunsAreMeant }
 {}

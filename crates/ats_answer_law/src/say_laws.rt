@@ -3,6 +3,8 @@
 ghost use Rattle.ats_answer_law.specs.BoundSays.{BoundAnswersAreMeant};
 ghost use Rattle.ats_answer_law.specs.DueMeaning.{DuesAreMeant};
 ghost use Rattle.ats_answer_law.specs.FileFaults.{FileFaultsAreMeant};
+ghost use Rattle.ats_answer_law.specs.FirstCauses.{FirstCausesAreMeant};
+ghost use Rattle.ats_answer_law.specs.Places.{PlacesAreMeant};
 ghost use Rattle.ats_answer_law.specs.RunSays.{RunAnswersAreMeant};
 ghost use Rattle.ats_answer_law.specs.SameTexts.{SameTextsAreMeant};
 
@@ -29,4 +31,16 @@ pub fn file_faults_are_meant()
 /// What is the same where two texts are.
 pub fn same_texts_are_meant()
     ensures { SameTextsAreMeant }
+{}
+
+/// Which place, row or stream each reason against a network and each refusal of rows names first, and what the number
+/// is that is told of it: part by part, and for all networks.
+pub fn first_causes_are_meant()
+    ensures { FirstCausesAreMeant }
+{}
+
+/// Where each setting of a network stands among the others, and at which port frames that are together at a port are
+/// counted.
+pub fn places_are_meant()
+    ensures { PlacesAreMeant }
 {}
