@@ -9,3 +9,4 @@ pub mod TextsShown
 pub mod RepliesShown
 pub mod PremisesShown
 pub mod CapturedMeant
+pub mod KeepingShown

@@ -6,3 +6,4 @@ pub mod Printed
 pub mod Replied
 pub mod Premises
 pub mod Captured
+pub mod Keeping

@@ -2,6 +2,7 @@
 
 ghost use Rattle.ats_answer_examples.specs.Captured.{CapturesAreMeant};
 ghost use Rattle.ats_answer_examples.specs.Concluded.{ConclusionsAreShown};
+ghost use Rattle.ats_answer_examples.specs.Keeping.{KeepingIsMeant};
 ghost use Rattle.ats_answer_examples.specs.Premises.{PremisesAreShown};
 ghost use Rattle.ats_answer_examples.specs.Printed.{TextsAreShown};
 ghost use Rattle.ats_answer_examples.specs.Regulated.{LrqBoundIsAnswered, LrqCheckIsAnswered, LrqShapeIsAnswered};
@@ -76,4 +77,10 @@ pub fn premises_are_shown()
 /// told as `releases` prints it, and that a capture is within what a certificate says: each part, and no others.
 pub fn captures_are_meant()
     ensures { CapturesAreMeant }
+{}
+
+/// What is asked of a node that keeps its buckets, or its spacing: both ways, in any network, of its own streams and
+/// flows, and of no others. Closed flows of other nodes have frames that are too long.
+pub fn keeping_is_meant()
+    ensures { KeepingIsMeant }
 {}

@@ -25,7 +25,8 @@ use Rattle.ats_replay.specs.Report.{bound_of}
 use Rattle.ats_replay.specs.Summary.{delay_to, frames_of, place_of}
 use Rattle.ats_command_due.specs.Generated.{sums_unless}
 use Rattle.ats_text_examples.specs.Measures.{ArrivedAfter, BoundIsLeastSum, IsWorst, MeasuresAreMeant}
-use Rattle.ats_text_examples.specs.Measures.{SummaryHasWorst, SumsAreWorked, TightestIsTightest, TightestIsWorked}
+use Rattle.ats_text_examples.specs.Measures.{SummaryHasWorst, SumsAreOfReason, SumsAreWorked, TightestIsTightest}
+use Rattle.ats_text_examples.specs.Measures.{TightestIsWorked}
 use Rattle.ats_text_examples.proofs.SumPlaces.{place_within, sum_at_place}
 
 -- What the tightest listener, the worst delay and a printed bound are.
@@ -207,7 +208,13 @@ tightest_is_worked = record {
 }
 
 sums_are_worked : SumsAreWorked
-sums_are_worked = record { free = refl; one_late = refl; narrow = refl }
+sums_are_worked = record { free = refl; one_late = refl; one_stays = refl; narrow = refl }
+
+sums_are_of_reason : SumsAreOfReason
+sums_are_of_reason = record {
+  none = λ network reason is. ap (sums_unless network) is;
+  all = λ network free. ap (sums_unless network) free;
+}
 
 pub measures_are_meant : MeasuresAreMeant
 measures_are_meant = record {
@@ -216,4 +223,5 @@ measures_are_meant = record {
   worst = summary_has_worst;
   bound = bound_is_least_sum;
   sums = sums_are_worked;
+  reasons = sums_are_of_reason;
 }

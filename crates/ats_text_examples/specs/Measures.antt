@@ -9,7 +9,10 @@ use Rattle.ats_network.specs.Sender.{stream_sender}
 use Rattle.ats_lrq.specs.Narrow.{narrowed}
 use Rattle.ats_certificate.specs.Certificate.{Holds, bound_on}
 use Rattle.ats_certificate.specs.declared.row.Row.{Row}
+use Rattle.ats_tally.specs.Delays.{sums_for}
+use Rattle.ats_tally.specs.declared.reason.Reason.{Reason}
 use Rattle.ats_bound.specs.Least.{least_certificate}
+use Rattle.ats_bound.specs.Reason.{reason_of}
 use Rattle.ats_explain.specs.Margins.{StreamListener, all_listeners, tightest_listener}
 use Rattle.ats_trace.specs.Journey.{Travel}
 use Rattle.ats_trace.specs.Stored.{leg_in}
@@ -89,12 +92,22 @@ BoundIsLeastSum = (network : DeclaredNetwork) (rows : List Row) (place listener 
     → bound_of network (least_sums network) place listener
     ≡ Some (bound_on (least_certificate network) stream (route_to (stream_sender stream) listener))
 
--- the sums of both streams, which are told of neither where one is late; and both bursts narrowed to a longest frame
+-- the sums of both streams, which are told of neither where one is late, nor where one may have to stay for too long;
+-- and both bursts narrowed to a longest frame
 pub record SumsAreWorked : Type 0 where
   pub free : least_sums wide ≡ Some (467673029 ∷ 261014682 ∷ [])
   pub one_late : least_sums (way_with 40000 200000) ≡ None
+  pub one_stays : least_sums (way_with 30000 300000) ≡ None
   pub narrow : narrowed wide
       ≡ declared_network wide.topology (with_burst u 8160 ∷ with_burst (v 300000) 9760 ∷ []) wide.flows
+
+-- no sum is told where there is a reason why no certificate holds, whichever; else all are. Refuses sums where only a
+-- residence is too short, by true time or by a clock
+pub record SumsAreOfReason : Type 0 where
+  pub none : (network : DeclaredNetwork) (reason : Reason) → reason_of network ≡ Some reason
+      → least_sums network ≡ None
+  pub all : (network : DeclaredNetwork) → reason_of network ≡ None
+      → least_sums network ≡ Some (sums_for network (least_certificate network))
 
 pub record MeasuresAreMeant : Type 0 where
   pub tightest : TightestIsTightest
@@ -102,3 +115,4 @@ pub record MeasuresAreMeant : Type 0 where
   pub worst : SummaryHasWorst
   pub bound : BoundIsLeastSum
   pub sums : SumsAreWorked
+  pub reasons : SumsAreOfReason

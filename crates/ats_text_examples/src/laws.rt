@@ -83,7 +83,8 @@ pub fn tables_are_told()
     ensures { TablesAreTold }
 {}
 
-/// What the text of a shape file declares, whose lines may end in CR LF, and what is printed of it.
+/// What the text of a shape file declares, whose lines may end in CR LF, and what is printed of it. Each frame is
+/// judged by what its own stream declares.
 pub fn shapes_are_told()
     ensures { ShapesAreTold }
 {}
@@ -107,8 +108,8 @@ pub fn calls_are_named()
 
 /// The tightest listener is one of the least slack, and the first of these in the worked network; a sender's worst
 /// delay to a listener is the longest of its frames that arrived there, 0 where none did; where a certificate holds, a
-/// printed bound is the sum of a stream's least bounds along the route there. No sum is told where one stream is late;
-/// each burst is narrowed to a longest frame.
+/// printed bound is the sum of a stream's least bounds along the route there. No sum is told where there is a reason
+/// why none holds, whichever; each burst is narrowed to a longest frame.
 pub fn measures_are_meant()
     ensures { MeasuresAreMeant }
 {}

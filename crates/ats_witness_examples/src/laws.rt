@@ -40,7 +40,7 @@ pub fn wait_is_worked()
 {}
 
 /// The sum that is printed beside the delays of a stream for a listener is the sum of its own least bounds along the
-/// route there, in picoseconds, and the one that no found delay exceeds.
+/// route there, by the clocks of the network's nodes, in picoseconds, and the one that no found delay exceeds.
 pub fn sums_are_own()
     ensures { SumsAreOwn }
 {}
