@@ -13,3 +13,4 @@ pub mod IdentityProofs
 pub mod FoundProofs
 pub mod TagProofs
 pub mod CaptureProofs
+pub mod HeldProofs

@@ -10,3 +10,4 @@ pub mod Named
 pub mod Found
 pub mod Tags
 pub mod Captures
+pub mod Held

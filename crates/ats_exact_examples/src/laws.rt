@@ -1,6 +1,7 @@
 //! What laws that hold one way only leave open, on closed examples and as laws of their own.
 
 ghost use Rattle.ats_exact_examples.specs.Captures.{RecordsAreRead};
+ghost use Rattle.ats_exact_examples.specs.Held.{EachIsSetOnce, HeldIsExact};
 ghost use Rattle.ats_exact_examples.specs.Waits.{WaitsMayGrow};
 ghost use Rattle.ats_exact_examples.specs.Records.{FirstFaultsAreNamed};
 ghost use Rattle.ats_exact_examples.specs.Faults.{FaultsAreFirst};
@@ -90,4 +91,14 @@ pub fn tags_are_exact()
 /// a header without a fault are read, each as its own bytes say.
 pub fn records_are_read()
     ensures { RecordsAreRead }
+{}
+
+/// What a port holds at a time, of whatever sizes; how long frames stay there, and by how much their ways to it differ.
+pub fn held_is_exact()
+    ensures { HeldIsExact }
+{}
+
+/// Each port of a sender that leaves a bridge to which its frames come has one setting, once.
+pub fn each_is_set_once()
+    ensures { EachIsSetOnce }
 {}

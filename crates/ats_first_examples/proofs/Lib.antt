@@ -13,3 +13,4 @@ pub mod SeveralRead
 pub mod TreesFound
 pub mod PortsFirst
 pub mod RangesRead
+pub mod DueMeant

@@ -12,3 +12,4 @@ pub mod Several
 pub mod Trees
 pub mod Ports
 pub mod Ranges
+pub mod Due

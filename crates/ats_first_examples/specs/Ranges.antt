@@ -1,4 +1,4 @@
-use Rattle.std.specs.Prelude.{◌≡◌, List, [], ◌∷◌, ◌++◌, take, drop, codes, None, Ok, Err}
+use Rattle.std.specs.Prelude.{◌≡◌, [], ◌∷◌, ◌++◌, take, drop, codes, None, Ok, Err}
 use Rattle.toml.specs.Data.{Data}
 use Rattle.ats_network_table.specs.declared.format.Format.TheVariants.{Two}
 use Rattle.ats_network_table.specs.declared.fault.DocumentFault.TheVariants.{WrongKind}
@@ -7,7 +7,7 @@ use Rattle.ats_network_table.specs.declared.table.Table.TheVariants as table
 use Rattle.ats_network_toml.specs.Document.{path}
 use Rattle.ats_network_toml.specs.Document as file
 use Rattle.ats_first_examples.specs.Ports.{local_flow_of, local_of, number}
-use Rattle.ats_first_examples.specs.Tables.{Values, a_name, a_number, bridge_of, bridge_right, flow_of, link_of}
+use Rattle.ats_first_examples.specs.Tables.{Values, a_name, bridge_of, bridge_right, flow_of, link_of}
 use Rattle.ats_first_examples.specs.Tables.{link_right, members_of, stream_of, two_names}
 
 -- Which numbers of a network file are of 32 bits, and which take more.

@@ -3,6 +3,7 @@
 ghost use Rattle.ats_first_examples.specs.Arrays.{ArraysAreJudged};
 ghost use Rattle.ats_first_examples.specs.Asked.{RequestsAreFirst};
 ghost use Rattle.ats_first_examples.specs.Captures.{CapturesAreFirst};
+ghost use Rattle.ats_first_examples.specs.Due.{DueKeysAreMeant};
 ghost use Rattle.ats_first_examples.specs.Kinds.{KindsAreRead};
 ghost use Rattle.ats_first_examples.specs.Ports.{PortsAreFirst};
 ghost use Rattle.ats_first_examples.specs.Ranges.{RangesAreRead};
@@ -89,4 +90,10 @@ pub fn captures_are_first()
 /// Which numbers of a network file are of 32 bits, and which take more.
 pub fn ranges_are_read()
     ensures { RangesAreRead }
+{}
+
+/// Which keys have to stand in a table, key by key: some always and some never, a path or a class unless others stand
+/// in its place, and of two that go together each where the other one does.
+pub fn due_keys_are_meant()
+    ensures { DueKeysAreMeant }
 {}

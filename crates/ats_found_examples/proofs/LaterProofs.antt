@@ -17,4 +17,5 @@ later_listeners_are_told = record {
   beside = refl;
   in_another_order = refl;
   in_backward_order = refl;
+  of_later = refl;
 }

@@ -1,3 +1,4 @@
 pub mod LaterProofs
+pub mod EachTextProofs
 pub mod HopProofs
 pub mod BurstProofs

@@ -3,7 +3,7 @@ use Rattle.ats_trace.specs.declared.journey.Release.{Release}
 use Rattle.ats_witness.specs.Found.{found_delays}
 use Rattle.ats_witness_text.specs.Text.{found_text, witness_text}
 use Rattle.ats_number_examples.specs.Networks.{joined}
-use Rattle.ats_tree_examples.specs.Networks.{tree, turned}
+use Rattle.ats_tree_examples.specs.Networks.{crossed, tree, turned}
 use Rattle.ats_tree_bound_examples.specs.OrderTexts.{backward}
 
 -- What is told of a later stream, and of later listeners.
@@ -23,7 +23,8 @@ pub record LaterIsTold : Type 0 where
 
 -- what is found for a further listener is told by the ports of the route there, the name of its station, and its own
 -- bound: over the tree of the third and the fourth listener, whose legs begin at later bridges, and of the second
--- beside the first. Listeners are told leg by leg, whatever the order of their names, nodes and ports
+-- beside the first. Listeners are told leg by leg, whatever the order of their names, nodes and ports; and those of a
+-- stream that is not the first by its own name and its own routes
 pub record LaterListenersAreTold : Type 0 where
   pub third : found_text tree 0 2 (found_delays (11 ∷ 22 ∷ 33 ∷ 44 ∷ []) 3 (release 5 0 ∷ [])) 55
       ≡ codes "listener a s4\nhop s1>b1 11\nhop b1>b2 22\nhop b2>b3 33\nhop b3>s4 44\nrelease 5 a 1522\n"
@@ -55,3 +56,8 @@ pub record LaterListenersAreTold : Type 0 where
       ++ codes "witness a s5 delay 24 bound 51 gap 27\n"
       ++ codes "listener a s2\nhop s1>b1 31\nhop b1>b2 32\nhop b2>s2 33\nwitness a s2 delay 33 bound 52 gap 19\n"
       ++ codes "listener a s3\nhop s1>b1 41\nhop b1>s3 42\nrelease 5 a 1522\nwitness a s3 delay 42 bound 53 gap 11\n"
+  pub of_later : witness_text crossed 1
+      (found_delays (11 ∷ 22 ∷ []) 1 [] ∷ found_delays (31 ∷ 42 ∷ []) 1 (release 5 1 ∷ []) ∷ [])
+      (λ listener. 50 + listener)
+      ≡ codes "hop s3>b1 11\nhop b1>s2 22\nwitness z delay 22 bound 50 gap 28\n"
+      ++ codes "listener z s1\nhop s3>b1 31\nhop b1>s1 42\nrelease 5 z 1522\nwitness z s1 delay 42 bound 51 gap 9\n"

@@ -1,3 +1,4 @@
 pub mod Later
+pub mod EachText
 pub mod Hops
 pub mod Bursts

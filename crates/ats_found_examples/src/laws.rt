@@ -2,6 +2,7 @@
 //! closed examples.
 
 ghost use Rattle.ats_found_examples.specs.Bursts.{BurstIsOfHop};
+ghost use Rattle.ats_found_examples.specs.EachText.{TextsAreOfTheirStream};
 ghost use Rattle.ats_found_examples.specs.Hops.{HopIsFirst};
 ghost use Rattle.ats_found_examples.specs.Later.{LaterIsTold, LaterListenersAreTold};
 
@@ -15,6 +16,12 @@ pub fn later_is_told()
 /// What is found for a further listener is told by the ports of the route there, its station's name, and its own bound.
 pub fn later_listeners_are_told()
     ensures { LaterListenersAreTold }
+{}
+
+/// A law of any network: the name, the ports and the station that are told are those of the stream that is asked for,
+/// and of its own route to the listener.
+pub fn texts_are_of_their_stream()
+    ensures { TextsAreOfTheirStream }
 {}
 
 /// The burst that is told is that of the first hop with a greatest delay, and of no other: not of a later one with the

@@ -1,5 +1,8 @@
+pub mod SendersMeant
 pub mod PartsMeant
 pub mod SettingsMeant
+pub mod KeptMeant
+pub mod ToldMeant
 pub mod OnceMeant
 pub mod HandedMeant
 pub mod ReadMeant

@@ -24,6 +24,7 @@ use Rattle.ats_verdict_examples.specs.Networks.{below_and_flow}
 use Rattle.ats_verdict_examples.proofs.NetworkProofs.{below_is}
 use Rattle.ats_meaning_examples.specs.Parts.{ExplanationsAreMeant, NamesAreExact, PartsAreExact, line_and_flows}
 use Rattle.ats_meaning_examples.specs.Parts.{of_flow, parts_of}
+use Rattle.ats_meaning_examples.proofs.SendersMeant.{sending_lower, some_is_named}
 
 -- Parts of bounds, and the names in them.
 
@@ -177,6 +178,8 @@ pub explanations_are_meant : EachStreamAddsUp → ExplanationsAreMeant
 explanations_are_meant each_stream_adds_up = record {
   parts = parts_are_exact each_stream_adds_up;
   names = names_are_exact;
+  sending = sending_lower;
+  some = some_is_named;
   each_port = λ network stream port adds there. All-contains (λ (p : ℕ).
       AreParts network p (class_at (stream_sender stream) p) (parts_of_hop network stream p)) stream.ports port
       adds.parts there;

@@ -1,5 +1,7 @@
 pub mod Parts
 pub mod Settings
+pub mod Kept
+pub mod Told
 pub mod Once
 pub mod Handed
 pub mod Read

@@ -1,14 +1,19 @@
-use Rattle.std.specs.Prelude.{◌≡◌, ℕ, List, [], ◌∷◌, codes, sum_by, Contains, Option, Some, None}
+use Rattle.std.specs.Prelude.{◌≡◌, ◌↔◌, ℕ, ◌<◌, true, List, [], ◌∷◌, codes, sum_by, Contains, Option, Some, None}
+use Rattle.std.specs.Prelude.{IsSome}
+use Rattle.ats_num.specs.Wire.{bits_of}
+use Rattle.ats_topology.specs.Topology.{DeclaredTopology}
 use Rattle.ats_streams.specs.Branches.{routes_of}
 use Rattle.ats_streams.specs.Flow.{declared_flow}
 use Rattle.ats_streams.specs.Stream.{DeclaredStream}
 use Rattle.ats_network.specs.Class.{class_at}
-use Rattle.ats_network.specs.Network.{DeclaredNetwork, declared_network}
-use Rattle.ats_network.specs.Sender.{stream_sender}
+use Rattle.ats_network.specs.Network.{DeclaredNetwork, declared_network, senders_of}
+use Rattle.ats_network.specs.Sender.{Sender, stream_sender}
 use Rattle.ats_certificate.specs.Certificate.{bound_on}
+use Rattle.ats_certificate.specs.PortSums.{port_sums}
 use Rattle.ats_bound.specs.Least.{least_certificate}
 use Rattle.ats_explain.specs.Laws.{AreParts, SendsLongest, StreamAddsUp}
 use Rattle.ats_explain.specs.Parts.{parts_at, parts_of_hop}
+use Rattle.ats_explain.specs.Senders.{lower_name, sends_lower}
 use Rattle.ats_explain.specs.declared.parts.Parts.{Parts}
 use Rattle.ats_examples.specs.Networks.{flow, line}
 use Rattle.ats_verdict_examples.specs.Networks.{below_and_flow}
@@ -64,6 +69,20 @@ pub record NamesAreExact : Type 0 where
   pub shorter : ¬ SendsLongest line_and_flows 0 6 (codes "h")
   pub next : ¬ SendsLongest line_and_flows 0 6 (codes "e")
 
+-- a sender sends frames of a lower class at a port, whose longest has so many wire bits: the port is one of its own, on
+-- its trunk or on a branch, its class there is lower, and nothing else is asked
+abbrev pub SendingLowerIsMeant : Type 0
+SendingLowerIsMeant = (topology : DeclaredTopology) (port class bits : ℕ) (s : Sender)
+    → (sends_lower topology port class bits s ≡ true)
+    ↔ (Contains s.ports port × (class_at s port < class) × (bits_of s.max_octets ≡ bits))
+
+-- where a network has such a sender with the longest frame of a lower class, a name is told. Refuses to tell of none
+-- where the port is on a branch
+abbrev pub SomeIsNamed : Type 0
+SomeIsNamed = (network : DeclaredNetwork) (port class : ℕ) (s : Sender) → Contains (senders_of network) s
+    → Contains s.ports port → class_at s port < class
+    → bits_of s.max_octets ≡ (port_sums network port class).lower → IsSome (lower_name network port class)
+
 -- where the parts of a stream's bounds add up, at each of its ports the parts are those of this port, in the class that
 -- the stream has there
 abbrev pub PartsAreOfEachPort : Type 0
@@ -82,5 +101,7 @@ BoundsAreTogetherTheSum = (network : DeclaredNetwork) (stream : DeclaredStream) 
 pub record ExplanationsAreMeant : Type 0 where
   pub parts : PartsAreExact
   pub names : NamesAreExact
+  pub sending : SendingLowerIsMeant
+  pub some : SomeIsNamed
   pub each_port : PartsAreOfEachPort
   pub sums : BoundsAreTogetherTheSum

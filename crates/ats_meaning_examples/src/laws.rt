@@ -4,11 +4,13 @@
 ghost use Rattle.ats_meaning_examples.specs.Asked.{AskedIsMeant};
 ghost use Rattle.ats_meaning_examples.specs.Handed.{HandingOnIsMeant};
 ghost use Rattle.ats_meaning_examples.specs.Happening.{HappeningIsMeant};
+ghost use Rattle.ats_meaning_examples.specs.Kept.{KeptIsMeant};
 ghost use Rattle.ats_meaning_examples.specs.Leaving.{LeavingIsMeant};
 ghost use Rattle.ats_meaning_examples.specs.Once.{OnceIsMeant};
 ghost use Rattle.ats_meaning_examples.specs.Parts.{ExplanationsAreMeant};
 ghost use Rattle.ats_meaning_examples.specs.Read.{ReadingIsMeant};
 ghost use Rattle.ats_meaning_examples.specs.Settings.{SettingsAreMeant};
+ghost use Rattle.ats_meaning_examples.specs.Told.{ToldIsMeant};
 
 use ats_explain::laws::each_stream_adds_up;
 
@@ -24,6 +26,17 @@ pub fn explanations_are_meant()
 /// is not true.
 pub fn settings_are_meant()
     ensures { SettingsAreMeant }
+{}
+
+/// What networks keep, with their topologies, streams, flows, trees and rates, part by part, and nothing else.
+pub fn kept_is_meant()
+    ensures { KeptIsMeant }
+{}
+
+/// What is told of settings, of buffers and of a bound's parts, for all networks: in which order settings stand, which
+/// networks are set alike, what streams may have at a port, and which lines a stream and a port have.
+pub fn told_is_meant()
+    ensures { ToldIsMeant }
 {}
 
 /// At which places of a sender's ports there is one that leaves a bridge to which its frames come, on the trunk and on
