@@ -19,7 +19,7 @@ pub record IsOpening {T O P : Type 0} (releases : List Release) (opening : Openi
   pub are : AreReleases opening.network.now releases
   pub few_ports : HaveFewPorts opening.network.now releases
   pub schedulers : opening.schedulers ≡ opening.network.now
-  pub stages : opening.stages.items ≡ stages_of opening.network.now releases
+  pub stages : opening.stages ≡ stages_of opening.network.now releases
   pub ports : AreOpened opening.network.now releases opening.tie opening.ports.items
   pub turns : opening.turns.items ≡ replicate (length opening.network.now.topology.ports) Resting
   pub arrives_from : opening.arrives_from.items

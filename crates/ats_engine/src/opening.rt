@@ -10,7 +10,7 @@ ghost use Rattle.ats_engine.specs.Rooms.{AreOpened};
 ghost use Rattle.ats_engine.specs.Told.{agenda_told};
 
 use crate::rooms::{counts_of, rooms_at};
-use ats_engine_steps::{Event, Stage, Turn};
+use ats_engine_steps::{Event, Stage, Stages, Turn};
 use ats_events::{Agenda, TimeOrder};
 use ats_group::Groups;
 use ats_network::Network;
@@ -26,7 +26,7 @@ pub(crate) struct Opening<'a, T: Tie, O: TimeOrder, P: Pace> {
     pub(crate) network: &'a Network,
     pub(crate) schedulers: Schedulers<'a>,
     pub(crate) pace: P,
-    pub(crate) stages: Vec<Stage>,
+    pub(crate) stages: Stages,
     pub(crate) ports: Vec<Port<T>>,
     pub(crate) turns: Vec<Turn>,
     pub(crate) arrives_from: Vec<Ps>,
@@ -63,7 +63,7 @@ impl<'a, T: Tie, O: TimeOrder, P: Pace> Opening<'a, T, O, P> {
         let count = net.topology().ports().len();
         Ok(Opening {
             network: net,
-            stages: stages_of(alloc, releases, legs)?,
+            stages: stages_of(releases, legs),
             ports: ports_of(alloc, net, releases, tie)?,
             turns: vec![in alloc; Turn::Resting; count]?,
             arrives_from: vec![in alloc; Ps(0); count]?,
@@ -92,19 +92,19 @@ fn legs_of(net: &Network, releases: &[Release]) -> usize
 
 /// Each frame comes to the first port of its trunk when it is released, and has not come to where its branches begin;
 /// there are so many legs.
-fn stages_of(alloc: Global, releases: &[Release], legs: usize) -> Result<Vec<Stage>, AllocError>
+fn stages_of(releases: &[Release], legs: usize) -> Stages
     requires { length releases.now ≤ legs }
-    ensures { IfOk result (λ stages. stages.items ≡ map (λ (r : Release). Coming r.at) releases.now
-        ++ replicate (legs - length releases.now) Apart) }
+    ensures { result ≡ map (λ (r : Release). Coming r.at) releases.now
+        ++ replicate (legs - length releases.now) Apart }
 {
-    let mut stages = Vec::with_capacity(alloc, legs)?;
+    let mut stages = Stages::new();
     for release in releases {
-        stages.push(Stage::Coming(release.at))?;
+        stages.push(Stage::Coming(release.at));
     }
     for _ in releases.len()..legs {
-        stages.push(Stage::Apart)?;
+        stages.push(Stage::Apart);
     }
-    Ok(stages)
+    stages
 }
 
 /// The ports of a network, each with room for all frames of these releases that pass it.

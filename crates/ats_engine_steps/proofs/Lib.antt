@@ -1,3 +1,4 @@
 pub mod Stepping
 pub mod LegLemmas
 pub mod Entering
+pub mod Telling

@@ -8,4 +8,5 @@ pub mod Judging
 pub mod Paces
 pub mod Ports
 pub mod Seen
+pub mod Stages
 pub mod Steps

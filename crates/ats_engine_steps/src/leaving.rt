@@ -14,6 +14,7 @@ ghost use Rattle.ats_engine_steps.specs.Steps.{leaves_for, selections};
 
 use crate::event::Event;
 use crate::stage::Stage;
+use crate::stages::Stages;
 use crate::turn::Turn;
 use ats_events::Moment;
 use ats_network::Network;
@@ -70,17 +71,17 @@ pub(crate) fn selection_of(port: u32, turn: Turn) -> Option<(Moment, Event)>
 /// the leg's listener.
 pub(crate) fn leave<S: Store>(
     net: &Network,
-    stages: &mut Vec<Stage>,
+    stages: &mut Stages,
     records: &mut Records<S>,
     row: u32,
     at: Ps,
 ) -> Option<(Moment, Event)>
-    requires stages { row < length stages.old.items }
+    requires stages { row < length stages.old }
     requires records { row < length records.old.legs }
     requires sender { (progress_at records.old.legs row).release.sender < length (senders_of net.now) }
     requires leg { (progress_at records.old.legs row).leg
         ≤ length (sender_of net.now (progress_at records.old.legs row)).branches }
-    ensures stages { stages.new.items ≡ slice_set stages.old.items row
+    ensures stages { stages.new ≡ slice_set stages.old row
         (leaves_for net.now row (progress_at records.old.legs row) at).stage }
     ensures records { records.new ≡ with_leg records.old row
         (leaves_for net.now row (progress_at records.old.legs row) at).progress }
@@ -91,9 +92,9 @@ pub(crate) fn leave<S: Store>(
     let ports = net.sender_leg(release.sender, records.leg(row)).len();
     if hops == ports {
         records.close(row, Ending::Sink(at));
-        stages[row as usize] = Stage::Over;
+        stages.set(row, Stage::Over);
         return None;
     }
-    stages[row as usize] = Stage::Coming(at);
+    stages.set(row, Stage::Coming(at));
     Some(Event::Arrival(row).at(at))
 }

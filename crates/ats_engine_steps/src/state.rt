@@ -1,6 +1,6 @@
 //! Where a run stands.
 
-use crate::stage::Stage;
+use crate::stages::Stages;
 use crate::turn::Turn;
 use ats_events::Moment;
 use ats_group::Groups;
@@ -12,7 +12,7 @@ use ats_transmit::Port;
 #[derive(Drop)]
 pub struct State<T: Tie, S: Store> {
     /// How far each frame is along each of its legs, by their rows.
-    pub stages: Vec<Stage>,
+    pub stages: Stages,
     /// What has happened to each frame along them.
     pub records: Records<S>,
     /// The ports, by their numbers.

@@ -89,16 +89,17 @@ pub fn row_begun<S: Store>(
 
 // A frame that came at this time with this verdict gets a hop record along a leg.
 fn enter<T: Tie, S: Store>(state: &mut State<T, S>, row: u32, at: Ps, verdict: Verdict)
-    requires stages { row < length state.old.stages.items }
+    requires stages { row < length state.old.stages }
     requires room { HasRoom state.old.records.legs row }
     ensures { course_of state.new ≡ entered (course_of state.old) row at verdict }
 {
     state.records.push(row, HopRecord::new(at, verdict));
-    state.stages[row as usize] = match verdict {
+    let stage = match verdict {
         Verdict::Eligible(eligible) => Stage::Due(eligible),
         Verdict::Late(_) => Stage::Over,
         Verdict::Size => Stage::Over,
     };
+    state.stages.set(row, stage);
 }
 
 /// A frame becomes eligible along a leg: its port holds it from now on, and where the port has rested it
@@ -115,7 +116,7 @@ pub fn become_eligible<T: Tie, S: Store>(
 {
     let offer = offer_of(net, &state.records, row);
     let port = place_of(net, &state.records, row);
-    state.stages[row as usize] = Stage::Waiting;
+    state.stages.set(row, Stage::Waiting);
     state.last = now;
     let turn = state.turns[port as usize];
     let standing = &mut state.ports[port as usize];

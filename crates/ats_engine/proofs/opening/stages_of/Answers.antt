@@ -6,6 +6,6 @@ use Rattle.ats_engine.proofs.opening.stages_of.Goals as goal
 
 pub loop-preserved : goal.loop-preserved
 loop-preserved c =
-    apart-more (map (λ (r : Release). Coming r.at) c.args.releases.now) c.loop.stages.items
-    c.push-in-loop.new.self.items (c.loop.counter - length c.args.releases.now) _ (omega arith) c.loop.invariant
-    c.in_ok-push-2.ensures.items
+    apart-more (map (λ (r : Release). Coming r.at) c.args.releases.now) c.loop.stages
+    c.push-in-loop.new.self (c.loop.counter - length c.args.releases.now) _ (omega arith) c.loop.invariant
+    c.push-in-loop.ensures

@@ -5,8 +5,8 @@ use Rattle.ats_engine.proofs.opening.stages_of.Given as goal
 
 abbrev pub invariant-loop-release : goal.invariant-loop-release
 invariant-loop-release l =
-    l.stages.items ≡ map (λ (r : Release). Coming r.at) (take l.release-index l.releases)
+    l.stages ≡ map (λ (r : Release). Coming r.at) (take l.release-index l.releases)
 
 abbrev pub invariant-loop : goal.invariant-loop
-invariant-loop l = l.stages.items
+invariant-loop l = l.stages
     ≡ map (λ (r : Release). Coming r.at) l.releases ++ replicate (l.counter - length l.releases) Apart

@@ -15,13 +15,14 @@ returns-in-Selecting g c =
     let was = port-read old port c.index_mut-standing.result.now within c.index_mut-standing.ensures.value in
     let is = turn-read old port (Selecting c.in-Selecting.field-0) c.index-turn.result.now listed
     c.index-turn.ensures c.in-Selecting.is in
-    offered g.T.Tie.key c.args.net.now old c.args.now c.args.row port c.in-Selecting.field-0
+    rw c.set.ensures
+    (offered g.T.Tie.key c.args.net.now old c.args.now c.args.row port c.in-Selecting.field-0
     c.index_mut-standing.result.now c.offer.new.self
     c.offer_of-offer.result (Selecting c.in-Selecting.field-0) (old.turns) ([])
     c.place_of-port.ensures was
     c.offer_of-offer.ensures c.offer.ensures.held
     c.offer.ensures.rest c.offer.ensures.lawful (λ e. cc) is
-    (same-turns old.turns port (Selecting c.in-Selecting.field-0) is) refl
+    (same-turns old.turns port (Selecting c.in-Selecting.field-0) is) refl)
 
 pub unreachable-requires : goal.unreachable-requires
 unreachable-requires g c =
@@ -37,10 +38,11 @@ returns-in-Some g c =
     let was = port-read old port c.index_mut-standing.result.now within c.index_mut-standing.ensures.value in
     let is = turn-read old port (Resting) c.index-turn.result.now listed
     c.index-turn.ensures c.in-Resting.is in
-    rw c.at.ensures
+    rw c.set.ensures
+    (rw c.at.ensures
     (offered g.T.Tie.key c.args.net.now old c.args.now c.args.row port c.in-Some.at c.index_mut-standing.result.now
     c.offer.new.self c.offer_of-offer.result Resting (set old.turns port (Selecting c.in-Some.at))
     ((selection_moment port c.in-Some.at, Selection port) ∷ [])
     c.place_of-port.ensures was
     c.offer_of-offer.ensures c.offer.ensures.held
-    c.offer.ensures.rest c.offer.ensures.lawful (λ e. c.in-Some.ensures) is (refl) refl)
+    c.offer.ensures.rest c.offer.ensures.lawful (λ e. c.in-Some.ensures) is (refl) refl))

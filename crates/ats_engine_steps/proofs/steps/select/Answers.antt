@@ -171,7 +171,7 @@ returns g c =
     selected g.T.Tie.key (g.P.Pace.wait c.args.pace.now) c.args.net.now old c.args.now c.args.port c.in-Start.frame row
     c.in-Start.end c.index-from.result.now c.arrival_behind-at.result c.index_mut-standing.result.now
     c.select-pick.new.self c.finish.new.self c.link_of-link.result c.turn_of-turn.result
-    c.leave-arrival.new.stages.items c.send.new.self c.leave-arrival.new.records
+    c.leave-arrival.new.stages c.send.new.self c.leave-arrival.new.records
     (option_to_list c.leave-arrival.result)
     (option_to_list c.leave-arrival.result ++ option_to_list c.selection_of.result)
     was c.requires.tie c.in-Start.ensures.pick.1 c.finish.ensures.rest c.finish.ensures.lawful c.turn_of-turn.ensures

@@ -44,7 +44,7 @@ returns-clause-opens g c =
       are = c.requires.releases;
       few_ports = c.requires.few_ports;
       schedulers = c.in_ok-schedulers.ensures;
-      stages = c.in_ok-stages_of.ensures
+      stages = c.stages_of.ensures
           ∙ ap (λ (n : ℕ). map (λ (r : Release). Coming r.at) c.args.releases.now ++ replicate n Apart) copies;
       ports = c.in_ok-ports_of.ensures;
       turns = c.in_ok-vec.ensures.items_if_clones_equal (λ (y : Turn) same. same)
