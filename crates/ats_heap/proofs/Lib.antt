@@ -1,4 +1,5 @@
 pub mod Fours
 pub mod Holes
 pub mod Lines
+pub mod Places
 pub mod Tops

@@ -70,6 +70,12 @@ pub record IsLine {T : Type 0} (covers : T → Type 0) (before : T → T → Typ
   pub covered : All covers line
   pub ascends : AllPairs (Leads covers before) line
 
+-- the item at this place leads the new one, which leads each behind it
+pub record IsLastLeader {T : Type 0} (leads : T → T → Type 0) (line : List T) (item : T) (place : ℕ) : Type 0 where
+  pub within : place < length line
+  pub led : (d : T) → leads (slice_index_or line place d) item
+  pub behind : (k : ℕ) (d : T) → place < k → k < length line → leads item (slice_index_or line k d)
+
 -- the line has a first item, and this leads all in the tree
 abbrev pub IsAhead : {T : Type 0} → (T → T → Type 0) → List T → List T → Type 0
 IsAhead leads [] tree = ⊥

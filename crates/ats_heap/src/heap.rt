@@ -11,8 +11,8 @@ use std::alloc::{AllocError, Global};
 use std::marker::Model;
 
 /// Items in an order. Contracts see them as a list, whose order means nothing, and the capacity and the order that the
-/// heap was opened with. An item that comes in its order waits in a line, where that has room; any other stands in a
-/// tree.
+/// heap was opened with. An item that comes in its order, or nearly so, waits in a line, where that
+/// has room; any other stands in a tree.
 #[derive(Drop)]
 pub struct Heap<T: Copy, O: Precedence<T>> {
     tree: Tree<T, O>,

@@ -4,18 +4,25 @@ ghost use Rattle.std.specs.Prelude.{◌≡◌, ◌↔◌, ◌<◌, [], ◌∷◌
 ghost use Rattle.std.specs.Prelude.{IsPermutation};
 ghost use Rattle.std.specs.Bool.{OnTrue, OnFalse};
 ghost use Rattle.ats_heap.specs.Contents.{joined};
-ghost use Rattle.ats_heap.specs.Inside.{Leads, IsLine, IsAhead, AreKept};
+ghost use Rattle.ats_heap.specs.Inside.{Leads, IsLine, IsAhead, IsLastLeader, AreKept};
 ghost use Rattle.ats_heap.specs.Steps.{Pops, IsFirst};
 
 use crate::line::Line;
 use crate::precedence::Precedence;
 use crate::tree::Tree;
 
+/// How many items at the end of a line one may be put before. Items that come in the order of time,
+/// but otherwise at equal times, belong behind all but a few. One look, at the item that so many
+/// stand behind, tells of any other.
+const NEAR: usize = 16;
+
 /// Whether an item goes before none of a line.
 fn is_last<T: Copy, O: Precedence<T>>(order: O, line: &Line<T>, item: T) -> bool
     requires line { IsLine (O.covers order) (O.goes_before order) line.now }
     requires item { O.covers order item }
-    ensures { OnTrue result (All (λ x. Leads (O.covers order) (O.goes_before order) x item) line.now) }
+    ensures all { OnTrue result
+        (All (λ x. Leads (O.covers order) (O.goes_before order) x item) line.now) }
+    ensures some { OnFalse result (0 < length line.now) }
 {
     let Some(last) = line.last() else {
         return true;
@@ -41,7 +48,28 @@ fn is_first<T: Copy, O: Precedence<T>>(order: O, line: &Line<T>, item: T) -> boo
     true
 }
 
-/// Puts an item at an end of a line, where it belongs there and there is room, and tells whether it did.
+/// The place of the last item of a line that this one does not go before, where at most `NEAR`
+/// stand behind that.
+fn near_end<T: Copy, O: Precedence<T>>(order: O, line: &Line<T>, item: T) -> Option<usize>
+    requires line { IsLine (O.covers order) (O.goes_before order) line.now }
+    requires some { 0 < length line.now }
+    requires item { O.covers order item }
+    ensures { IfSome result
+        (IsLastLeader (Leads (O.covers order) (O.goes_before order)) line.now item) }
+{
+    let mut place = line.waiting();
+    let least = place.saturating_sub(NEAR);
+    if order.goes_before(&item, &line.at(least)) {
+        return None;
+    }
+    while order.goes_before(&item, &line.at(place)) {
+        place -= 1;
+    }
+    Some(place)
+}
+
+/// Puts an item at an end of a line or near the last, where it belongs there and there is room, and
+/// tells whether it did.
 fn join<T: Copy, O: Precedence<T>>(order: O, line: &mut Line<T>, item: T) -> bool
     requires line { IsLine (O.covers order) (O.goes_before order) line.old }
     requires item { O.covers order item }
@@ -55,10 +83,16 @@ fn join<T: Copy, O: Precedence<T>>(order: O, line: &mut Line<T>, item: T) -> boo
     if is_last(order, line, item) {
         return line.push_last(item);
     }
-    false
+    if line.is_full() {
+        return false;
+    }
+    let Some(place) = near_end(order, line, item) else {
+        return false;
+    };
+    line.put_behind(place, item)
 }
 
-/// Adds an item, to the line where it comes in its order, else to the tree.
+/// Adds an item, to the line where it comes in its order or nearly so, else to the tree.
 pub(crate) fn put<T: Copy, O: Precedence<T>>(line: &mut Line<T>, tree: &mut Tree<T, O>, item: T)
     requires room { length tree.old.items < tree.old.capacity }
     requires kept { AreKept (O.covers tree.old.order) (O.goes_before tree.old.order) line.old tree.old.items }

@@ -1,6 +1,8 @@
 //! Items that wait in a line.
 
-ghost use Rattle.std.specs.Prelude.{◌≡◌, ◌-◌, [], ◌∷◌, ◌++◌, length, slice_get, if◌then◌else◌, IfNone, IfOk};
+ghost use Rattle.std.specs.Prelude.{◌≡◌, ◌↔◌, ◌+◌, ◌-◌, ◌<◌, Some, [], ◌∷◌, ◌++◌, length};
+ghost use Rattle.std.specs.Prelude.{slice_get, insert, vec_len, vec_capacity, if◌then◌else◌};
+ghost use Rattle.std.specs.Prelude.{IsTrue, IfNone, IfOk};
 ghost use Rattle.std.specs.Option.{option_to_list};
 
 use std::alloc::{AllocError, Global};
@@ -58,6 +60,24 @@ impl<T: Copy> Line<T> {
         Some(self.items[self.items.len() - 1])
     }
 
+    /// How many items stand behind the first one.
+    pub(crate) fn waiting(&self) -> usize
+        ensures { result ≡ length self.now - 1 }
+    {
+        self.items.len() - self.gone
+    }
+
+    /// The item at this place.
+    pub(crate) fn at(&self, place: usize) -> T
+        requires { place < length self.now }
+        ensures { slice_get self.now place ≡ Some result }
+    {
+        if place == 0 {
+            return self.first.unwrap();
+        }
+        self.items[self.gone + (place - 1)]
+    }
+
     /// Puts an item before the first one, where there is room, and tells whether there is. It takes no memory.
     pub(crate) fn push_first(&mut self, item: T) -> bool
         ensures { self.new ≡ (if result then item ∷ self.old else self.old) }
@@ -78,6 +98,12 @@ impl<T: Copy> Line<T> {
         true
     }
 
+    /// Whether there is no room behind the last item. No clause says so: it is a matter of memory
+    /// alone.
+    pub(crate) fn is_full(&self) -> bool {
+        !has_room(&self.items)
+    }
+
     /// Puts an item behind the last one, where there is room, and tells whether there is. It takes no memory.
     pub(crate) fn push_last(&mut self, item: T) -> bool
         ensures { self.new ≡ (if result then self.old ++ item ∷ [] else self.old) }
@@ -86,10 +112,23 @@ impl<T: Copy> Line<T> {
             self.first = Some(item);
             return true;
         }
-        if self.items.len() >= self.items.capacity() {
+        if !has_room(&self.items) {
             return false;
         }
         self.items.push(item).unwrap();
+        true
+    }
+
+    /// Puts an item behind the one at this place, where there is room, and tells whether there is.
+    /// It takes no memory.
+    pub(crate) fn put_behind(&mut self, place: usize, item: T) -> bool
+        requires { place < length self.old }
+        ensures { self.new ≡ (if result then insert self.old (place + 1) item else self.old) }
+    {
+        if !has_room(&self.items) {
+            return false;
+        }
+        self.items.insert(self.gone + place, item).unwrap();
         true
     }
 
@@ -113,4 +152,11 @@ impl<T: Copy> Line<T> {
         self.gone += 1;
         Some(first)
     }
+}
+
+/// Whether there is room for an item more.
+fn has_room<T: Copy>(items: &Vec<T>) -> bool
+    ensures { IsTrue result ↔ (vec_len items.now < vec_capacity items.now) }
+{
+    items.len() < items.capacity()
 }
