@@ -1,3 +1,4 @@
 mod Promised
 mod Stations
 mod Printed
+mod ToldMeant

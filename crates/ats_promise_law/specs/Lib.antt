@@ -1,3 +1,4 @@
 pub mod Stations
 pub mod Laws
 pub mod Printed
+pub mod Told

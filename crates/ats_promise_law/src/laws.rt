@@ -3,6 +3,7 @@
 ghost use Rattle.ats_promise_law.specs.Laws.{PromisesAreKept};
 ghost use Rattle.ats_promise_law.specs.Printed.{PrintedTextsAreDue};
 ghost use Rattle.ats_promise_law.specs.Stations.{JoinedBeginAtStations};
+ghost use Rattle.ats_promise_law.specs.Told.{DueAnswersAreMeant};
 
 /// A law: where the files are told, what `check` promises of its text is that they declare a network and rows of which
 /// it is a sound text, by the groups of Asynchronous Traffic Shaping and for talkers that keep their buckets; and
@@ -23,4 +24,10 @@ pub fn joined_begin_at_stations()
 /// `lrq check` have printed is the text of which they make their promises.
 pub fn printed_texts_are_due()
     ensures { PrintedTextsAreDue }
+{}
+
+/// A law: the files of a command are told exactly where bytes are told under each of its file words; and an answer is
+/// due exactly where they are, and it is one where the files have these bytes.
+pub fn due_answers_are_meant()
+    ensures { DueAnswersAreMeant }
 {}
