@@ -10,3 +10,5 @@ mod EachEntryProofs
 mod RefusedTold
 mod ShapeProofs
 mod MeteredProofs
+pub mod OutsideMeant
+pub mod FilesMeant

@@ -10,3 +10,5 @@ pub mod EachEntry
 pub mod Refused
 pub mod Shapes
 pub mod Metered
+pub mod OutsideWords
+pub mod FileWords

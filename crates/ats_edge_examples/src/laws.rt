@@ -3,8 +3,10 @@
 ghost use Rattle.ats_edge_examples.specs.Captured.{SenderIsCaptured};
 ghost use Rattle.ats_edge_examples.specs.EachEntry.{EachEntryCounts};
 ghost use Rattle.ats_edge_examples.specs.FaultOrders.{FaultsAreInOrder};
+ghost use Rattle.ats_edge_examples.specs.FileWords.{FilesAreMeant};
 ghost use Rattle.ats_edge_examples.specs.Metered.{FramesAreNumbered};
 ghost use Rattle.ats_edge_examples.specs.Outside.{OutsideIsAtEdges};
+ghost use Rattle.ats_edge_examples.specs.OutsideWords.{OutsideIsMeant};
 ghost use Rattle.ats_edge_examples.specs.Refused.{RefusalsAreTold};
 ghost use Rattle.ats_edge_examples.specs.Requests.{LinesAreJudgedByThemselves};
 ghost use Rattle.ats_edge_examples.specs.Routes.{RoutesAreMeant};
@@ -80,4 +82,15 @@ pub fn shapes_are_at_edges()
 /// A law: a meter of `conform` takes the frames of its sender, each by its number among all releases.
 pub fn frames_are_numbered()
     ensures { FramesAreNumbered }
+{}
+
+/// A law: what is said of files, sinks, counts of faults and reads, written out both ways.
+pub fn outside_is_meant()
+    ensures { OutsideIsMeant }
+{}
+
+/// A law: what records, nodes, links and the senders for each port are, and what the laws on network files ask of texts
+/// and documents, written out for all of them.
+pub fn files_are_meant()
+    ensures { FilesAreMeant }
 {}

@@ -18,14 +18,17 @@ use Rattle.ats_topology.specs.declared.port.Port.{Port}
 use Rattle.ats_topology.proofs.PositionLemmas.{IsFound, all_fail, found}
 use Rattle.ats_streams.specs.Stream.{DeclaredStream}
 use Rattle.ats_network.specs.Edits.{no_stream}
-use Rattle.ats_network.specs.Network.{DeclaredNetwork}
+use Rattle.ats_network.specs.Network.{DeclaredNetwork, names_of as sender_names, senders_of}
 use Rattle.ats_network.specs.Pushes.{has_identity, is_identity, place_identified}
+use Rattle.ats_network.specs.Sender.{Sender}
+use Rattle.ats_network.specs.Senders.{no_sender, sender_at}
 use Rattle.ats_port_names.specs.PortName.{name_of as written, port_named}
 use Rattle.ats_trace.specs.Talker.{talker_of}
 use Rattle.ats_capture.specs.Traffic.{begun_at, stream_of}
+use Rattle.ats_schedule.specs.Reading.{sender_named}
 use Rattle.ats_command_input.specs.Stream.{stream_named}
 use Rattle.ats_exact_examples.specs.Found.{FindsFirst, IdentitiesAreFound, IsFirst, IsFirstBegun, IsStationNamed}
-use Rattle.ats_exact_examples.specs.Found.{NamesAreFound, RecordsBelong}
+use Rattle.ats_exact_examples.specs.Found.{IsSenderCalled, IsSenderNamed, NamesAreFound, RecordsBelong}
 use Rattle.ats_exact_examples.specs.Named.{IsNodeNamed, IsPortNamed, IsStreamIdentified, IsStreamNamed}
 use Rattle.ats_exact_examples.proofs.IdentityProofs.{declared_so, identities_are_exact}
 
@@ -189,8 +192,52 @@ station_found topology word n = (
     to false e h = absurd (none-some n h)
     to true e h = station_at topology word n e (place_of word (names_of topology.nodes)) refl h
 
+called_found : (network : DeclaredNetwork) (name : List ℕ)
+    → FindsFirst (place_of name (sender_names (senders_of network))) (IsSenderCalled network name)
+called_found network name =
+    finds_first (bytes_eq name) (sender_names (senders_of network)) [] (IsSenderCalled network name) to from
+  where
+    long : length (sender_names (senders_of network)) ≡ length (senders_of network)
+    long = length-map (senders_of network) (λ (s : Sender). s.name)
+
+    called : (n : ℕ) → n < length (senders_of network)
+        → get_or (sender_names (senders_of network)) n [] ≡ (sender_at network n).name
+    called n within = get_or-map (λ (s : Sender). s.name) (senders_of network) n no_sender [] within
+
+    to : (n : ℕ) → Passes (bytes_eq name) (sender_names (senders_of network)) [] n → IsSenderCalled network name n
+    to n passes =
+        let within : n < length (senders_of network) = omega (arith, passes.within, long) in
+        record {
+          there = within;
+          so = sym (called n within)
+              ∙ sym (bytes_eq-true name (get_or (sender_names (senders_of network)) n []) passes.passes);
+        }
+
+    from : (n : ℕ) → IsSenderCalled network name n → Passes (bytes_eq name) (sender_names (senders_of network)) [] n
+    from n so = record {
+      within = omega (arith, so.there, long);
+      passes = bytes_same name (get_or (sender_names (senders_of network)) n []) (sym (called n so.there ∙ so.so));
+    }
+
+-- the number of the sender that a word names, where it is a name or not
+abbrev sender_if : DeclaredNetwork → List ℕ → Bool → Option ℕ
+sender_if network word b =
+    option_and_then (λ name. place_of name (sender_names (senders_of network))) (if b then Some word else None)
+
+named_found : (network : DeclaredNetwork) (word : List ℕ) (n : ℕ)
+    → (sender_named network word ≡ Some n) ↔ IsSenderNamed network word n
+named_found network word n = (
+  λ named. to (is_name word) refl named,
+  λ is. ap (sender_if network word) is.name ∙ ((called_found network word).one n).1 is.first,
+)
+  where
+    to : (b : Bool) → is_name word ≡ b → sender_if network word b ≡ Some n → IsSenderNamed network word n
+    to false e h = absurd (none-some n h)
+    to true e h = record { name = e; first = ((called_found network word).one n).0 h }
+
 pub names_are_found : NamesAreFound
-names_are_found = record { stream = stream_found; port = port_found; station = station_found }
+names_are_found =
+    record { stream = stream_found; port = port_found; station = station_found; sender = named_found }
 
 identity_passes : (identity : ℕ × ℕ) (o : Option (ℕ × ℕ)) → o ≡ Some identity → is_identity identity o ≡ true
 identity_passes identity o same =

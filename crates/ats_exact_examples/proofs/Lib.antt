@@ -14,3 +14,6 @@ pub mod FoundProofs
 pub mod TagProofs
 pub mod CaptureProofs
 pub mod HeldProofs
+pub mod MakingProofs
+pub mod CaptureWordProofs
+pub mod WordedProofs

@@ -49,7 +49,7 @@ mixed_is_written word order found = by (bytes_eq (take 6 word) (codes "mixed:"))
         ∙ by_number (drop 6 word) order (number_of (drop 6 word)) refl given
     by false other given = absurd (none-some order given)
 
-orders_are_written : OrdersAreWritten
+pub orders_are_written : OrdersAreWritten
 orders_are_written word order found = by (bytes_eq word (codes "early")) refl found
   where
     late : (b : Bool) → bytes_eq word (codes "late") ≡ b

@@ -1,14 +1,16 @@
-use Rattle.std.specs.Prelude.{◌≡◌, ◌↔◌, ℕ, ◌<◌, IsTrue, List, [], ◌∷◌, codes, Option, Some, None}
+use Rattle.std.specs.Prelude.{◌≡◌, ◌↔◌, ℕ, ◌<◌, IsTrue, List, [], ◌∷◌, length, codes, Option, Some, None}
 use Rattle.ats_num.specs.Name.{is_name}
 use Rattle.ats_topology.specs.Node.{is_station}
 use Rattle.ats_topology.specs.Topology.{DeclaredTopology, node_at, station_named}
 use Rattle.ats_streams.specs.Stream.{DeclaredStream, branching_stream}
-use Rattle.ats_network.specs.Network.{AreIdentified, DeclaredNetwork, long_network}
+use Rattle.ats_network.specs.Network.{AreIdentified, DeclaredNetwork, long_network, senders_of}
 use Rattle.ats_network.specs.Pushes.{place_identified}
+use Rattle.ats_network.specs.Senders.{sender_at}
 use Rattle.ats_port_names.specs.PortName.{port_named}
 use Rattle.ats_port_capture.specs.Frame.{identity_of}
 use Rattle.ats_trace.specs.Talker.{talker_of}
 use Rattle.ats_capture.specs.Traffic.{stream_of}
+use Rattle.ats_schedule.specs.Reading.{sender_named}
 use Rattle.ats_command_input.specs.Stream.{stream_named}
 use Rattle.ats_tree_examples.specs.Networks.{branch, split_topology}
 use Rattle.ats_exact_examples.specs.Named.{IsNodeNamed, IsPortNamed, IsStreamIdentified, IsStreamNamed}
@@ -31,8 +33,19 @@ pub record IsStationNamed (topology : DeclaredTopology) (word : List ℕ) (n : �
   pub first : IsFirst (IsNodeNamed topology word) n
   pub station : IsTrue (is_station (node_at topology.nodes n).kind)
 
--- streams, ports and stations that words name, in any list and any topology. Refuses a search that ends after 16
--- streams, or passes over those with many ports
+-- the stream or flow with a number has this name
+pub record IsSenderCalled (network : DeclaredNetwork) (word : List ℕ) (n : ℕ) : Type 0 where
+  pub there : n < length (senders_of network)
+  pub so : (sender_at network n).name ≡ word
+
+-- a word is a name, and this is the first stream or flow that is called so
+pub record IsSenderNamed (network : DeclaredNetwork) (word : List ℕ) (n : ℕ) : Type 0 where
+  pub name : IsTrue (is_name word)
+  pub first : IsFirst (IsSenderCalled network word) n
+
+-- streams, ports and stations that words name, in any list and any topology, and the stream or flow that a record of a
+-- schedule names, in any network. Refuses a search that ends after 16 streams, or passes over those with many ports,
+-- and a record that may name a sender by its number, or by a part of its name
 pub record NamesAreFound : Type 0 where
   pub stream : (streams : List DeclaredStream) (word : List ℕ)
       → FindsFirst (stream_named streams word) (IsStreamNamed streams word)
@@ -40,6 +53,8 @@ pub record NamesAreFound : Type 0 where
       → FindsFirst (port_named topology text) (IsPortNamed topology text)
   pub station : (topology : DeclaredTopology) (word : List ℕ) (n : ℕ)
       → (station_named topology word ≡ Some n) ↔ IsStationNamed topology word n
+  pub sender : (network : DeclaredNetwork) (word : List ℕ) (n : ℕ)
+      → (sender_named network word ≡ Some n) ↔ IsSenderNamed network word n
 
 -- the first stream that declares an identity begins at the station
 pub record IsFirstBegun (network : DeclaredNetwork) (station : ℕ) (identity : ℕ × ℕ) (n : ℕ) : Type 0 where

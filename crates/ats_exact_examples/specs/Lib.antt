@@ -11,3 +11,6 @@ pub mod Found
 pub mod Tags
 pub mod Captures
 pub mod Held
+pub mod Making
+pub mod Worded
+pub mod CaptureWords

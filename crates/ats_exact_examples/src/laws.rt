@@ -1,18 +1,22 @@
 //! What laws that hold one way only leave open, on closed examples and as laws of their own.
 
+ghost use Rattle.ats_exact_examples.specs.AnyWords.{WordsAreAny};
+ghost use Rattle.ats_exact_examples.specs.CaptureWords.{CaptureBytesAreMeant};
 ghost use Rattle.ats_exact_examples.specs.Captures.{RecordsAreRead};
-ghost use Rattle.ats_exact_examples.specs.Held.{EachIsSetOnce, HeldIsExact};
-ghost use Rattle.ats_exact_examples.specs.Waits.{WaitsMayGrow};
-ghost use Rattle.ats_exact_examples.specs.Records.{FirstFaultsAreNamed};
 ghost use Rattle.ats_exact_examples.specs.Faults.{FaultsAreFirst};
 ghost use Rattle.ats_exact_examples.specs.Found.{IdentitiesAreFound, NamesAreFound};
+ghost use Rattle.ats_exact_examples.specs.Making.{MakingIsMeant};
 ghost use Rattle.ats_exact_examples.specs.Ports.{GroupsCrossPorts};
+ghost use Rattle.ats_exact_examples.specs.Held.{EachIsSetOnce, HeldIsExact};
 ghost use Rattle.ats_exact_examples.specs.Links.{LatenciesMayDiffer};
-ghost use Rattle.ats_exact_examples.specs.Orders.{OrdersAreExact};
-ghost use Rattle.ats_exact_examples.specs.Only.{NothingElseIsRead};
-ghost use Rattle.ats_exact_examples.specs.AnyWords.{WordsAreAny};
 ghost use Rattle.ats_exact_examples.specs.Named.{IdentitiesAreExact, NamesAreExact};
+ghost use Rattle.ats_exact_examples.specs.Only.{NothingElseIsRead};
+ghost use Rattle.ats_exact_examples.specs.Orders.{OrdersAreExact};
+ghost use Rattle.ats_exact_examples.specs.Ports.{GroupsCrossPorts};
+ghost use Rattle.ats_exact_examples.specs.Records.{FirstFaultsAreNamed};
 ghost use Rattle.ats_exact_examples.specs.Tags.{TagsAreExact};
+ghost use Rattle.ats_exact_examples.specs.Waits.{WaitsMayGrow};
+ghost use Rattle.ats_exact_examples.specs.Worded.{WordsAreNumbers};
 
 /// A longer wait covers too, and makes larger buffers there and behind.
 pub fn waits_may_grow()
@@ -69,8 +73,8 @@ pub fn identities_are_exact()
     ensures { IdentitiesAreExact }
 {}
 
-/// What is found by a name is the first stream, port or station that is called so, and nothing is found only where none
-/// is.
+/// What is found by a name is the first stream, port or station that is called so, and in a schedule the first stream
+/// or flow, and nothing is found only where none is.
 pub fn names_are_found()
     ensures { NamesAreFound }
 {}
@@ -101,4 +105,20 @@ pub fn held_is_exact()
 /// Each port of a sender that leaves a bridge to which its frames come has one setting, once.
 pub fn each_is_set_once()
     ensures { EachIsSetOnce }
+{}
+
+/// When `generate` makes releases, and why it makes none, of any network and both ways; and from which numbers they are
+/// drawn.
+pub fn making_is_meant()
+    ensures { MakingIsMeant }
+{}
+
+/// Which words name orders, seeds and numbers of frames: of all words, these and no others.
+pub fn words_are_numbers()
+    ensures { WordsAreNumbers }
+{}
+
+/// The bytes of captures, read and written, and what their records come to, written out for all bytes and numbers.
+pub fn capture_bytes_are_meant()
+    ensures { CaptureBytesAreMeant }
 {}

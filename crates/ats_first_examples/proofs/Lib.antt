@@ -14,3 +14,7 @@ pub mod TreesFound
 pub mod PortsFirst
 pub mod RangesRead
 pub mod DueMeant
+pub mod ValuesStand
+pub mod EntriesStand
+pub mod DocumentsStand
+pub mod WordsWritten

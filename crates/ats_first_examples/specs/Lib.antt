@@ -13,3 +13,5 @@ pub mod Trees
 pub mod Ports
 pub mod Ranges
 pub mod Due
+pub mod Entries
+pub mod Written

@@ -4,6 +4,7 @@ ghost use Rattle.ats_first_examples.specs.Arrays.{ArraysAreJudged};
 ghost use Rattle.ats_first_examples.specs.Asked.{RequestsAreFirst};
 ghost use Rattle.ats_first_examples.specs.Captures.{CapturesAreFirst};
 ghost use Rattle.ats_first_examples.specs.Due.{DueKeysAreMeant};
+ghost use Rattle.ats_first_examples.specs.Entries.{TablesAreRead};
 ghost use Rattle.ats_first_examples.specs.Kinds.{KindsAreRead};
 ghost use Rattle.ats_first_examples.specs.Ports.{PortsAreFirst};
 ghost use Rattle.ats_first_examples.specs.Ranges.{RangesAreRead};
@@ -15,6 +16,7 @@ ghost use Rattle.ats_first_examples.specs.Shapes.{ShapesAreFirst};
 ghost use Rattle.ats_first_examples.specs.Tables.{TablesAreFirst};
 ghost use Rattle.ats_first_examples.specs.Topologies.{TopologyFaultsAreFirst};
 ghost use Rattle.ats_first_examples.specs.Trees.{TreesAreFound};
+ghost use Rattle.ats_first_examples.specs.Written.{WordsAreWritten};
 
 /// Nodes and links: of the eight kinds of fault the first in their order, wherever its entry stands, and of one kind
 /// the first entry.
@@ -96,4 +98,15 @@ pub fn ranges_are_read()
 /// in its place, and of two that go together each where the other one does.
 pub fn due_keys_are_meant()
     ensures { DueKeysAreMeant }
+{}
+
+/// A law: of all texts, what a network file declares stands in its tables, one by one and in their order, each name and
+/// number with its own key; where a deadline or a number of a clock is left out, it is a second, or 0.
+pub fn tables_are_read()
+    ensures { TablesAreRead }
+{}
+
+/// A law: the words by which a network file is read, written out for all values, keys and tables.
+pub fn words_are_written()
+    ensures { WordsAreWritten }
 {}

@@ -5,3 +5,5 @@ pub mod DiscardProofs
 pub mod VerdictProofs
 pub mod PromptProofs
 pub mod ClockedProofs
+pub mod KeyProofs
+pub mod JourneyProofs

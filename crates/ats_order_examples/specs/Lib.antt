@@ -5,3 +5,5 @@ pub mod Discards
 pub mod Verdicts
 pub mod Prompt
 pub mod Clocked
+pub mod Keys
+pub mod Journeys

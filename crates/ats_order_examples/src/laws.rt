@@ -4,6 +4,8 @@ ghost use Rattle.ats_order_examples.specs.Clocked.{LegalByClocksIsMeant};
 ghost use Rattle.ats_order_examples.specs.Discards.{DiscardedAreNotSent};
 ghost use Rattle.ats_order_examples.specs.FlowBreaks.{FlowsBreakAlone};
 ghost use Rattle.ats_order_examples.specs.Flows.{FlowsAreKept};
+ghost use Rattle.ats_order_examples.specs.Journeys.{JourneysAreMeant};
+ghost use Rattle.ats_order_examples.specs.Keys.{KeysAreOfAll};
 ghost use Rattle.ats_order_examples.specs.Orders.{OrdersAreKept};
 ghost use Rattle.ats_order_examples.specs.Prompt.{PromptIsByEachBound};
 ghost use Rattle.ats_order_examples.specs.Verdicts.{VerdictsAreMeant, VerdictsAreTold};
@@ -53,4 +55,17 @@ pub fn prompt_is_by_each_bound()
 /// that was told the earlier time goes first.
 pub fn legal_by_clocks_is_each_part()
     ensures { LegalByClocksIsMeant }
+{}
+
+/// A law, of any frames, both ways: a port keeps the order of ties where it does so of all that tie, whatever it sends
+/// between them; each link keeps its times and its order of all that cross, and its pace of each. So it is of two
+/// frames of one class between which one of a higher class goes.
+pub fn keys_are_of_all()
+    ensures { KeysAreOfAll }
+{}
+
+/// A law, of any frame, both ways: which ways along ports are one, what its copies are and what its journey is; and
+/// what each record tells of it to the ports, to the links and to the groups behind them.
+pub fn journeys_are_meant()
+    ensures { JourneysAreMeant }
 {}

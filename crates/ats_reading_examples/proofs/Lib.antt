@@ -8,3 +8,6 @@ pub mod FieldProofs
 pub mod ReadProofs
 pub mod ColumnProofs
 pub mod StoredProofs
+pub mod CutProofs
+pub mod EachProofs
+pub mod EachTextProofs

@@ -6,3 +6,8 @@ pub mod Fields
 pub mod Reads
 pub mod Columns
 pub mod Stored
+pub mod Cut
+pub mod EachNumber
+pub mod EachRecord
+pub mod EachLine
+pub mod EachText

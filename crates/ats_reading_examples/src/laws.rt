@@ -2,6 +2,11 @@
 
 ghost use Rattle.ats_reading_examples.specs.Bytes.{CapturesHaveAllBits};
 ghost use Rattle.ats_reading_examples.specs.Columns.{ColumnsAreExact};
+ghost use Rattle.ats_reading_examples.specs.Cut.{TextsAreCut};
+ghost use Rattle.ats_reading_examples.specs.EachLine.{LinesAreMeant};
+ghost use Rattle.ats_reading_examples.specs.EachNumber.{NamesAndNumbersAreMeant};
+ghost use Rattle.ats_reading_examples.specs.EachRecord.{RecordsAreMeant};
+ghost use Rattle.ats_reading_examples.specs.EachText.{TextsAreDeclared};
 ghost use Rattle.ats_reading_examples.specs.Fields.{FieldsAreExact};
 ghost use Rattle.ats_reading_examples.specs.Keys.{KeysAreExact};
 ghost use Rattle.ats_reading_examples.specs.Lines.{LinesAreRead};
@@ -53,4 +58,31 @@ pub fn columns_are_exact()
 /// it stands, also from a second on.
 pub fn records_are_as_written()
     ensures { RecordsAreAsWritten }
+{}
+
+/// A law: how any text is cut into lines, and any line into words, and which lines are passed over: those that begin
+/// with a number sign, and those of spaces alone.
+pub fn texts_are_cut()
+    ensures { TextsAreCut }
+{}
+
+/// A law: which texts are names and which are numbers, and how many bits a frame has: nothing else is asked of them.
+pub fn names_and_numbers_are_meant()
+    ensures { NamesAndNumbersAreMeant }
+{}
+
+/// A law: what certificates and schedules declare, of all bytes, records and fields: a record names a port or a sender
+/// by its name alone, and the first of its faults in one order is told.
+pub fn records_are_meant()
+    ensures { RecordsAreMeant }
+{}
+
+/// A law: what a line of a shape file and of a request file declares, of all words: each in its place, and no others.
+pub fn lines_are_meant()
+    ensures { LinesAreMeant }
+{}
+
+/// A law: what a shape file and a request file declare, line by line, of all texts.
+pub fn texts_are_declared()
+    ensures { TextsAreDeclared }
 {}
