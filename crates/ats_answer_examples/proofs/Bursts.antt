@@ -9,7 +9,6 @@ use Rattle.ats_network_file.specs.FaultText as network_file
 use Rattle.ats_network_file.specs.Reading.{network_of}
 use Rattle.ats_network_file.specs.Senders.{all_added, flow_added, refusal_of, stream_added, stream_made, stream_over}
 use Rattle.ats_network_file.specs.declared.fault.NetFault.{NetFault}
-use Rattle.ats_network_file.specs.declared.senders.SenderTable.TheVariants.{Stream}
 use Rattle.ats_network_table.specs.declared.format.Format.TheVariants.{One}
 use Rattle.ats_network_toml.specs.Document as file
 use Rattle.ats_network_toml.specs.Document.{ends}

@@ -1,4 +1,4 @@
-use Rattle.std.proofs.Common.{◌≡◌, ◌∙◌, ℕ, ◌+◌, List, length, filter, filter_map, Option, None, Result, Ok, sym, ap}
+use Rattle.std.proofs.Common.{◌≡◌, ◌∙◌, ℕ, ◌+◌, List, length, filter, filter_map, Option, Result, Ok, sym, ap}
 use Rattle.std.specs.List.{enumerate_from}
 use Rattle.ats_num.specs.Failure.{◌>>=◌, unless}
 use Rattle.ats_network.specs.Network.{DeclaredNetwork}
@@ -8,7 +8,7 @@ use Rattle.ats_capture.specs.FaultText.{fault_text}
 use Rattle.ats_capture.specs.Traffic.{Traffic, traffic_of}
 use Rattle.ats_capture.specs.declared.fault.JoinFault.TheVariants.{Limit}
 use Rattle.ats_capture_law.proofs.Counting.{traffic_is_counted}
-use Rattle.ats_capture_law.specs.Counted.{counted, first_over, is_oversize, is_unidentified, release_of}
+use Rattle.ats_capture_law.specs.Counted.{counted, is_unidentified, release_of}
 use Rattle.ats_command_input.specs.Input.{declared_in, traffic_in}
 use Rattle.ats_command_input.specs.Answer.{Answer}
 use Rattle.ats_command_due.specs.Due.{told_bytes}

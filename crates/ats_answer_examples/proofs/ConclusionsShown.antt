@@ -1,16 +1,14 @@
 -- What words say that laws conclude of bursts, releases, buffers and bounds, on closed things.
-use Rattle.std.proofs.Common.{◌≡◌, ℕ, zero, suc, ◌+◌, ◌*◌, ◌<◌, ◌≤◌, List, [], ◌∷◌, length, All, Some, None, refl}
+use Rattle.std.proofs.Common.{◌≡◌, ℕ, zero, suc, ◌+◌, ◌*◌, ◌<◌, ◌≤◌, [], ◌∷◌, All, Some, None, refl}
 use Rattle.std.proofs.Common.{inl, inr, arith, lit<, lit≤}
 use Rattle.std.specs.Prelude.{nat_le, slice_index}
 use Rattle.std.proofs.lemmas.List.Elements.{All-contains}
 use Rattle.std.proofs.lemmas.Option.{none-some, same_Some}
 use Rattle.ats_trace.specs.Talker.{frames_of}
 use Rattle.ats_trace.specs.declared.journey.Release.{Release}
-use Rattle.ats_fit.specs.declared.measured.Measured.{Measured}
 use Rattle.ats_gen.specs.Made.{made}
 use Rattle.ats_gen.specs.declared.fault.GenFault.TheVariants.{Limit}
 use Rattle.ats_bound.specs.Least.{least_certificate}
-use Rattle.ats_bound.proofs.LeastHolds.{least_certificate_holds}
 use Rattle.ats_buffer.specs.Buffer.{buffer_at}
 use Rattle.ats_buffer.specs.Occupancy.{row_at}
 use Rattle.ats_buffer_law.proofs.Held.{buffers_hold}

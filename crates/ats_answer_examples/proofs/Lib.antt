@@ -10,3 +10,5 @@ pub mod RepliesShown
 pub mod PremisesShown
 pub mod CapturedMeant
 pub mod KeepingShown
+pub mod MeteredProofs
+pub mod RunsDueProofs

@@ -1,9 +1,8 @@
 -- What answers to requests say of the network before and after, on closed networks.
-use Rattle.std.proofs.Common.{◌≡◌, ◌≢◌, ℕ, zero, suc, ◌+◌, ◌<◌, ◌≤◌, Bool, true, List, [], ◌∷◌, ◌++◌, length, All}
-use Rattle.std.proofs.Common.{Contains, Some, None, refl, sym, ap, ◌∙◌, inl, inr, arith, lit<, lit≤}
+use Rattle.std.proofs.Common.{◌≡◌, ◌≢◌, ℕ, zero, suc, ◌+◌, ◌<◌, ◌≤◌, List, [], ◌∷◌, ◌++◌, length, All}
+use Rattle.std.proofs.Common.{Contains, Some, None, refl, ap, ◌∙◌, inl, inr, arith, lit<, lit≤}
 use Rattle.std.specs.Prelude.{codes}
 use Rattle.std.proofs.lemmas.List.{length-append}
-use Rattle.std.proofs.lemmas.List.Elements.{All-contains}
 use Rattle.std.proofs.lemmas.Option.{none-some}
 use Rattle.ats_streams.specs.Stream.{DeclaredStream}
 use Rattle.ats_network.specs.Network.{DeclaredNetwork, IsNetwork, names_of, senders_of}
@@ -12,10 +11,9 @@ use Rattle.ats_network.specs.Tables.{stream_names}
 use Rattle.ats_tally.specs.declared.reason.Reason.{Reason}
 use Rattle.ats_tally.specs.declared.reason.Reason.TheVariants.{Deadline, Overloaded, Residence}
 use Rattle.ats_bound.proofs.FirstReason.{each_reason_is_the_first, first_reason_is_one}
-use Rattle.ats_requests.specs.declared.answer.Answer.TheVariants.{Admitted, Withdrawn, Refused}
-use Rattle.ats_requests.specs.declared.denied.Denied.TheVariants.{NameTaken, NameUnknown, Limit, Because, NoClass}
-use Rattle.ats_requests.specs.declared.request.Request.{Request}
-use Rattle.ats_requests.specs.declared.request.Request.TheVariants.{Admit, Lowest, Withdraw}
+use Rattle.ats_requests.specs.declared.answer.Answer.TheVariants.{Admitted, Refused}
+use Rattle.ats_requests.specs.declared.denied.Denied.TheVariants.{NameTaken, Limit, Because, NoClass}
+use Rattle.ats_requests.specs.declared.request.Request.TheVariants.{Admit, Lowest}
 use Rattle.ats_examples.specs.Networks.{line_links, line_nodes}
 use Rattle.ats_examples.proofs.NetworkTest.{network_by}
 use Rattle.ats_verdict_examples.specs.Networks.{stream_until}
@@ -26,7 +24,6 @@ use Rattle.ats_command_law.specs.Answered.{AnswerTells, HasReasonWith}
 use Rattle.ats_command_law.proofs.Answered.{are_answers}
 use Rattle.ats_command_law.proofs.OneClass.{AsksOneClass}
 use Rattle.ats_answer_examples.specs.Replied.{AdmitTellsIt, LowestTellsIt, RepliesAreShown, WithdrawTellsIt, and_small}
-use Rattle.ats_answer_examples.specs.Replied.{emptied}
 
 -- each stream of the eight requests has one class
 one_class : All AsksOneClass asked

@@ -1,11 +1,10 @@
 -- What words say that laws conclude of the bytes of files and of texts, on the files of the worked calls.
-use Rattle.std.proofs.Common.{◌≡◌, ℕ, ◌+◌, false, true, List, [], ◌∷◌, length, Result, Ok, Err, refl, sym, ap, subst}
+use Rattle.std.proofs.Common.{◌≡◌, ℕ, false, true, List, [], ◌∷◌, length, Result, Ok, Err, refl, sym, ap, subst}
 use Rattle.std.proofs.Common.{◌∙◌, arith}
 use Rattle.std.specs.Prelude.{codes, IsErr, is_err}
 use Rattle.std.proofs.lemmas.Bool.{false≢true}
 use Rattle.std.proofs.lemmas.List.Sorted.{length_permutation}
 use Rattle.ats_network.specs.Network.{DeclaredNetwork}
-use Rattle.ats_trace.specs.Journey.{Travel}
 use Rattle.ats_trace.specs.declared.journey.Release.{Release}
 use Rattle.ats_conform.specs.Releases.{AllKeepBuckets}
 use Rattle.ats_gen.specs.Made.{AreMade, made}
@@ -39,11 +38,11 @@ use Rattle.ats_call_examples.specs.Run.{departures}
 use Rattle.ats_call_examples.proofs.Conformed.{conform_is_answered}
 use Rattle.ats_call_examples.proofs.JudgedByOne.{bound_is_answered}
 use Rattle.ats_call_examples.proofs.JudgedByTwo.{check_is_answered}
-use Rattle.ats_call_examples.proofs.Line.{line_is, no_network}
+use Rattle.ats_call_examples.proofs.Line.{no_network}
 use Rattle.ats_call_examples.proofs.Made.{generate_is_answered}
 use Rattle.ats_call_examples.proofs.Replayed.{bounds_are_met}
 use Rattle.ats_call_examples.proofs.Scheduled.{no_schedule}
-use Rattle.ats_answer_examples.specs.Printed.{BoundIsTold, MadeRunOf, MadeRunsAreTold, TextsAreShown, TextsAreTold}
+use Rattle.ats_answer_examples.specs.Printed.{BoundIsTold, MadeRunsAreTold, TextsAreShown, TextsAreTold}
 use Rattle.ats_answer_examples.specs.Printed.{TextsOf, TextsWithin, reported}
 
 -- what is declared is declared once, and is no fault

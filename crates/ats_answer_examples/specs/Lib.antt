@@ -7,3 +7,5 @@ pub mod Replied
 pub mod Premises
 pub mod Captured
 pub mod Keeping
+pub mod Metered
+pub mod RunsDue

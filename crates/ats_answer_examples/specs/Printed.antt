@@ -1,4 +1,4 @@
-use Rattle.std.specs.Prelude.{ℕ, List, [], ◌∷◌, ◌++◌, codes, Option}
+use Rattle.std.specs.Prelude.{ℕ, List, [], ◌++◌, codes, Option}
 use Rattle.ats_network.specs.Network.{DeclaredNetwork}
 use Rattle.ats_trace.specs.Journey.{Travel}
 use Rattle.ats_trace.specs.declared.journey.Release.{Release}

@@ -1,7 +1,6 @@
-use Rattle.std.specs.Prelude.{ℕ, [], codes, None}
+use Rattle.std.specs.Prelude.{ℕ, [], codes}
 use Rattle.ats_network.specs.Network.{DeclaredNetwork, declared_network}
 use Rattle.ats_network.specs.Pushes.{with_stream}
-use Rattle.ats_tally.specs.declared.reason.Reason.TheVariants.{Deadline}
 use Rattle.ats_requests.specs.declared.answer.Answer.TheVariants.{Admitted, Withdrawn, Refused}
 use Rattle.ats_requests.specs.declared.denied.Denied.TheVariants.{NameTaken, NameUnknown, Limit, Because, NoClass}
 use Rattle.ats_requests.specs.declared.request.Request.TheVariants.{Admit, Lowest, Withdraw}

@@ -3,10 +3,12 @@
 ghost use Rattle.ats_answer_examples.specs.Captured.{CapturesAreMeant};
 ghost use Rattle.ats_answer_examples.specs.Concluded.{ConclusionsAreShown};
 ghost use Rattle.ats_answer_examples.specs.Keeping.{KeepingIsMeant};
+ghost use Rattle.ats_answer_examples.specs.Metered.{MeteringIsMeant};
 ghost use Rattle.ats_answer_examples.specs.Premises.{PremisesAreShown};
 ghost use Rattle.ats_answer_examples.specs.Printed.{TextsAreShown};
 ghost use Rattle.ats_answer_examples.specs.Regulated.{LrqBoundIsAnswered, LrqCheckIsAnswered, LrqShapeIsAnswered};
 ghost use Rattle.ats_answer_examples.specs.Replied.{RepliesAreShown};
+ghost use Rattle.ats_answer_examples.specs.RunsDue.{RunsAreDue};
 ghost use Rattle.ats_answer_examples.specs.Told.{BuffersIsAnswered, PeaksIsAnswered, SettingsIsAnswered};
 ghost use Rattle.ats_answer_examples.specs.Words.{WordsAreNone};
 
@@ -83,4 +85,17 @@ pub fn captures_are_meant()
 /// flows, and of no others. Closed flows of other nodes have frames that are too long.
 pub fn keeping_is_meant()
     ensures { KeepingIsMeant }
+{}
+
+/// A law, of any frames, rates and bursts, both ways: whose releases count for a talker, and with how many bits; since
+/// which frame a meter of `conform` tells that a bucket is exceeded; and what the bucket holds of a stream for which
+/// `generate` makes releases.
+pub fn metering_is_meant()
+    ensures { MeteringIsMeant }
+{}
+
+/// The other half of what is due where several texts may be: that of each run by the order that is asked for, with
+/// exactly the releases that are declared, and that of each list of delays that are found.
+pub fn runs_are_due()
+    ensures { RunsAreDue }
 {}

@@ -1,6 +1,7 @@
-use Rattle.std.specs.Prelude.{◌≡◌, [], ◌∷◌}
-use Rattle.ats_clock.specs.Clock.{declared_clock}
+use Rattle.std.specs.Prelude.{◌≡◌, List, [], ◌∷◌}
+use Rattle.ats_clock.specs.Clock.{DeclaredClock, declared_clock}
 use Rattle.ats_clock.specs.Rates.{committed, output_behind, output_of, scheduler_for}
+use Rattle.ats_clock.specs.declared.committed.Committed.{Committed}
 
 -- Rates and bursts by clocks, each where one that is reckoned in another way is another.
 
@@ -33,8 +34,17 @@ pub record ClocksGoInOrder : Type 0 where
   pub turned : output_behind (declared_clock 0 2000000 ∷ declared_clock 100 8000 ∷ []) (committed 100000000 12336)
       ≡ committed 100020004 12738
 
+-- behind any clocks, one after another, comes what each lets through of what comes to it. Refuses greater rates or
+-- bursts than these, by which all bounds would hold as well
+pub record EachClockIsNext : Type 0 where
+  pub no_clock : (arriving : Committed) → output_behind [] arriving ≡ arriving
+  pub next : (clock : DeclaredClock) (clocks : List DeclaredClock) (arriving : Committed)
+      → output_behind (clock ∷ clocks) arriving
+      ≡ output_behind clocks (output_of clock (scheduler_for clock arriving))
+
 pub record RatesAreRounded : Type 0 where
   pub steps : StepsAreOfTheScheduler
   pub first : RatesAreRoundedFirst
   pub picoseconds : PicosecondsDeviate
   pub order : ClocksGoInOrder
+  pub next : EachClockIsNext

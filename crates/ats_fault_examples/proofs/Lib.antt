@@ -4,3 +4,4 @@ pub mod NumbersWithin
 pub mod FilesWritten
 pub mod InputsWritten
 pub mod LimitsAllowed
+pub mod EachWritten

@@ -1,7 +1,8 @@
 use Rattle.std.proofs.Common.{refl}
 use Rattle.std.specs.Fmt.{digits}
-use Rattle.ats_fault_examples.specs.Networks.{FormFaultsAreWritten, TopologyFaultsAreWritten, SenderFaultsAreWritten}
-use Rattle.ats_fault_examples.specs.Networks.{FlowsAtPortsAreTold, NetworkFaultsAreWritten, StreamsAtPortsAreTold}
+use Rattle.ats_fault_examples.specs.Networks.{EntryFaultsAreWritten, FormFaultsAreWritten, TopologyFaultsAreWritten}
+use Rattle.ats_fault_examples.specs.Networks.{FlowsAtPortsAreTold, NetworkFaultsAreWritten, SenderFaultsAreWritten}
+use Rattle.ats_fault_examples.specs.Networks.{StreamsAtPortsAreTold}
 
 -- Words of faults of network files by computation.
 
@@ -73,6 +74,9 @@ flows_at_ports_are_told = record {
   twice = refl;
 }
 
+entry_faults_are_written : EntryFaultsAreWritten
+entry_faults_are_written = record { name = refl; identity = refl; limit = refl }
+
 pub network_faults_are_written : NetworkFaultsAreWritten
 network_faults_are_written = record {
   form = form_faults_are_written;
@@ -80,4 +84,5 @@ network_faults_are_written = record {
   senders = sender_faults_are_written;
   streams_at_ports = streams_at_ports_are_told;
   flows_at_ports = flows_at_ports_are_told;
+  entries = entry_faults_are_written;
 }

@@ -4,3 +4,4 @@ pub mod Numbers
 pub mod Files
 pub mod Inputs
 pub mod Limits
+pub mod EachFault

@@ -1,4 +1,6 @@
 use Rattle.std.specs.Prelude.{◌≡◌, codes}
+use Rattle.ats_network.specs.FaultText.{fault_text as entry_text}
+use Rattle.ats_network.specs.declared.fault.PushFault.TheVariants as entry
 use Rattle.ats_network_file.specs.FaultText.{fault_text}
 use Rattle.ats_network_file.specs.declared.fault.NetFault.TheVariants.{Form, Topology, BadPath, Sender, SenderTwice}
 use Rattle.ats_network_file.specs.declared.fault.NetFault.TheVariants.{IdentityTwice}
@@ -72,9 +74,16 @@ pub record FlowsAtPortsAreTold : Type 0 where
   pub limit : fault_text (Sender sender.LinkLocalFlow 56 rule.Limit) ≡ codes "link_local_flow 56 limit"
   pub twice : fault_text (SenderTwice sender.LinkLocalFlow 57) ≡ codes "sender-twice link_local_flow 57"
 
+-- why a stream or a flow can't be added to a network, which is told to callers alone
+pub record EntryFaultsAreWritten : Type 0 where
+  pub name : entry_text entry.NameTaken ≡ codes "name-taken"
+  pub identity : entry_text entry.IdentityTaken ≡ codes "identity-taken"
+  pub limit : entry_text entry.Limit ≡ codes "limit"
+
 pub record NetworkFaultsAreWritten : Type 0 where
   pub form : FormFaultsAreWritten
   pub topology : TopologyFaultsAreWritten
   pub senders : SenderFaultsAreWritten
   pub streams_at_ports : StreamsAtPortsAreTold
   pub flows_at_ports : FlowsAtPortsAreTold
+  pub entries : EntryFaultsAreWritten

@@ -1,5 +1,6 @@
 //! The words of each fault, and what is printed where a file has one.
 
+ghost use Rattle.ats_fault_examples.specs.EachFault.{EachFaultIsWritten};
 ghost use Rattle.ats_fault_examples.specs.Files.{FileFaultsAreWritten};
 ghost use Rattle.ats_fault_examples.specs.Inputs.{InputsAreWritten, MakingIsRefused};
 ghost use Rattle.ats_fault_examples.specs.Keys.{KeysAreNamed};
@@ -43,4 +44,9 @@ pub fn limits_are_allowed()
 /// names may have; and how many releases, streams and frames a file may declare, or a word may ask to be made.
 pub fn numbers_are_within()
     ensures { NumbersAreWithin }
+{}
+
+/// A law: the words of each fault that has a number, a table, a key or a rule, whichever these are.
+pub fn each_fault_is_written()
+    ensures { EachFaultIsWritten }
 {}

@@ -2,3 +2,4 @@ pub mod Later
 pub mod EachText
 pub mod Hops
 pub mod Bursts
+pub mod Each

@@ -2,6 +2,7 @@
 //! closed examples.
 
 ghost use Rattle.ats_found_examples.specs.Bursts.{BurstIsOfHop};
+ghost use Rattle.ats_found_examples.specs.Each.{EachIsFound};
 ghost use Rattle.ats_found_examples.specs.EachText.{TextsAreOfTheirStream};
 ghost use Rattle.ats_found_examples.specs.Hops.{HopIsFirst};
 ghost use Rattle.ats_found_examples.specs.Later.{LaterIsTold, LaterListenersAreTold};
@@ -37,3 +38,9 @@ pub fn burst_is_of_hop()
 {
     burst_is_one();
 }
+
+/// A law, of any network and run, both ways: which releases are a burst, in which order, and which delay is the
+/// greatest of a sender for a listener.
+pub fn each_is_found()
+    ensures { EachIsFound }
+{}

@@ -3,3 +3,4 @@ pub mod ToldProofs
 pub mod ShortTest
 pub mod PremiseProofs
 pub mod AnswersMeant
+pub mod PartsMeant

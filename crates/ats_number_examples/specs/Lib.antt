@@ -3,3 +3,4 @@ pub mod Counted
 pub mod Told
 pub mod Premises
 pub mod Answered
+pub mod Parts

@@ -2,6 +2,7 @@
 
 ghost use Rattle.ats_number_examples.specs.Answered.{AnswersAreMeant};
 ghost use Rattle.ats_number_examples.specs.Counted.{NumbersAreCounted};
+ghost use Rattle.ats_number_examples.specs.Parts.{PremisesAreMeant};
 ghost use Rattle.ats_number_examples.specs.Premises.{PremisesAreMet};
 ghost use Rattle.ats_number_examples.specs.Told.{NumbersAreTold};
 
@@ -26,4 +27,10 @@ pub fn premises_are_met()
 /// there and names, and a reason for each of the seven classes where none will do.
 pub fn answers_are_meant()
     ensures { AnswersAreMeant }
+{}
+
+/// A law: what it comes to, part by part and both ways, that a text can hold the times of a run and the numbers of a
+/// report.
+pub fn premises_are_meant()
+    ensures { PremisesAreMeant }
 {}

@@ -1,3 +1,4 @@
 mod CapturedProofs
 mod MeasuredProofs
 mod CopiedProofs
+pub mod EachProofs

@@ -2,6 +2,7 @@
 
 ghost use Rattle.ats_sender_examples.specs.Captured.{SendersAreCaptured};
 ghost use Rattle.ats_sender_examples.specs.Copied.{CopiesCountOnce};
+ghost use Rattle.ats_sender_examples.specs.Each.{EachIsMeasured};
 ghost use Rattle.ats_sender_examples.specs.Measured.{SendersAreMeasured};
 
 /// The capture of a port that sent frames of two streams with addresses of their own and of a flow, each of other
@@ -19,4 +20,9 @@ pub fn senders_are_measured()
 /// What is measured of releases of a stream with two listeners: each frame counts once.
 pub fn copies_count_once()
     ensures { CopiesCountOnce }
+{}
+
+/// A law, of any releases of any network, both ways: what is measured of each sender, part by part.
+pub fn each_is_measured()
+    ensures { EachIsMeasured }
 {}
