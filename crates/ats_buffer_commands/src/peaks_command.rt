@@ -19,7 +19,7 @@ use ats_certificate::Certificate;
 use ats_command_input::{Order, Stop, certificate_in, network_in, schedule_in};
 use ats_io::Files;
 use ats_network::Network;
-use ats_run_commands::run_in;
+use ats_ordered_run::run_in;
 use ats_trace::Release;
 use std::alloc::{AllocError, Global};
 

@@ -2,29 +2,18 @@ use Rattle.std.specs.Prelude.{◌≡◌, ℕ, List, Result, Ok, Err}
 use Rattle.std.specs.Global.{Vec}
 use Rattle.ats_network.specs.Network.{DeclaredNetwork}
 use Rattle.ats_trace.specs.Journey.{Travel}
-use Rattle.ats_trace.specs.Run.{IsRunBy, HasReleases}
 use Rattle.ats_trace.specs.declared.journey.Release.{Release}
 use Rattle.ats_replay.specs.Departures.{departures_text}
 use Rattle.ats_num.specs.Failure.{◌>>=◌}
 use Rattle.ats_command_input.specs.Answer.{Answer}
 use Rattle.ats_command_input.specs.Input.{network_in, releases_in}
-use Rattle.ats_command_input.specs.Order.{key_of, wait_of}
+pub use Rattle.ats_command_input.specs.Order.{IsRunIn, IsRunWith}
 use Rattle.ats_command_input.specs.Outcome.{IsStopOf}
 use Rattle.ats_command_input.specs.declared.order.Order.{Order}
 use Rattle.ats_command_input.specs.declared.outcome.Stop.{Stop}
 use Rattle.ats_command_input.specs.declared.status.Status.TheVariants.{Done}
 
--- a run by this key and this wait, with exactly these releases
-pub record IsRunWith (key wait : ℕ → ℕ → ℕ) (network : DeclaredNetwork) (releases : List Release) (run : List Travel)
-    : Type 0 where
-  pub by_order : IsRunBy key wait network run
-  pub exactly : HasReleases releases run
-
--- such a run by the key and the wait of an order
-abbrev pub IsRunIn : Order → DeclaredNetwork → List Release → List Travel → Type 0
-IsRunIn order = IsRunWith (key_of order) (wait_of order)
-
--- such a run, and a text that prints each field of each of its journeys
+-- a run in this order with exactly these releases, and a text that prints each field of each of its journeys
 pub record IsReplay (order : Order) (network : DeclaredNetwork) (releases : List Release) (text : List ℕ)
     (run : List Travel) : Type 0 where
   pub is_run : IsRunIn order network releases run

@@ -1,3 +1,4 @@
+pub use Rattle.ats_requests.specs.declared.request.Request
 pub mod Order
 pub mod Command
 pub mod Answer

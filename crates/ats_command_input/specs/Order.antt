@@ -4,6 +4,10 @@ use Rattle.std.specs.Str.{bytes_eq}
 use Rattle.ats_num.specs.Number.{number_of}
 use Rattle.ats_num.specs.Pace.{drawn_wait}
 use Rattle.ats_num.specs.Tie.{late_key, mixed_key}
+use Rattle.ats_network.specs.Network.{DeclaredNetwork}
+use Rattle.ats_trace.specs.Journey.{Travel}
+use Rattle.ats_trace.specs.Run.{IsRunBy, HasReleases}
+use Rattle.ats_trace.specs.declared.journey.Release.{Release}
 use Rattle.ats_command_input.specs.declared.order.Order.{Order}
 use Rattle.ats_command_input.specs.declared.order.Order.TheVariants.{Early, Late, Mixed}
 
@@ -34,3 +38,13 @@ abbrev pub wait_of : Order → ℕ → ℕ → ℕ
 wait_of Early = λ frame spread. 0
 wait_of Late = λ frame spread. spread
 wait_of (Mixed n) = drawn_wait n
+
+-- a run by this key and this wait, with exactly these releases
+pub record IsRunWith (key wait : ℕ → ℕ → ℕ) (network : DeclaredNetwork) (releases : List Release) (run : List Travel)
+    : Type 0 where
+  pub by_order : IsRunBy key wait network run
+  pub exactly : HasReleases releases run
+
+-- such a run by the key and the wait of an order
+abbrev pub IsRunIn : Order → DeclaredNetwork → List Release → List Travel → Type 0
+IsRunIn order = IsRunWith (key_of order) (wait_of order)

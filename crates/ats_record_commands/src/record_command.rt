@@ -13,7 +13,7 @@ ghost use Rattle.ats_command_due.specs.Replayed.{GivesOne};
 use ats_command_input::{Order, Stop, network_in, port_in, schedule_in};
 use ats_io::Files;
 use ats_network::Network;
-use ats_run_commands::run_in;
+use ats_ordered_run::run_in;
 use ats_trace::Release;
 use std::alloc::{AllocError, Global};
 

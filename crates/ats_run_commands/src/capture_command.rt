@@ -11,11 +11,11 @@ ghost use Rattle.ats_command_due.specs.Calls.{Answers, ReadsFiles};
 ghost use Rattle.ats_command_due.specs.Captured.{IsCaptureText};
 ghost use Rattle.ats_command_due.specs.Replayed.{GivesOne};
 
-use crate::replay_command::run_in;
 use ats_capture::{StationTraffic, counts_line};
 use ats_command_input::{Order, Stop, network_in, station_in, traffic_in};
 use ats_io::Files;
 use ats_network::Network;
+use ats_ordered_run::run_in;
 use ats_replay::departures;
 use std::alloc::{AllocError, Global};
 

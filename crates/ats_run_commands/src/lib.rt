@@ -7,4 +7,4 @@ pub mod replay_command;
 
 pub use capture_command::capture;
 pub use generate_command::generate;
-pub use replay_command::{replay, run_in};
+pub use replay_command::replay;
