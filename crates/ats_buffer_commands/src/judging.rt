@@ -11,7 +11,7 @@ use ats_checker::check;
 use ats_command_input::Stop;
 use ats_network::Network;
 use ats_num::Failure;
-use ats_verdict_commands::check_command::refused;
+use ats_verdict_text::refused_certificate;
 use std::alloc::Global;
 
 // Passes a certificate that holds. It stops where it does not, with the line why that `check` prints.
@@ -28,7 +28,9 @@ pub(crate) fn holding<'a>(
     let topology = network.topology();
     match check(alloc, network, certificate) {
         Ok(_delays) => Ok(()),
-        Err(Failure::Fault(refusal)) => Err(Stop::Refused(refused(alloc, topology, &refusal)?)),
+        Err(Failure::Fault(refusal)) => Err(Stop::Refused(refused_certificate(
+            alloc, topology, &refusal,
+        )?)),
         Err(Failure::NoMemory) => Err(Stop::NoMemory),
     }
 }

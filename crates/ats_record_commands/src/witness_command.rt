@@ -18,7 +18,7 @@ use ats_io::Files;
 use ats_network::Network;
 use ats_num::Failure;
 use ats_tally::Delays;
-use ats_verdict_commands::bound_command::refused;
+use ats_verdict_text::refused_network;
 use ats_witness_text::write_found;
 use std::alloc::{AllocError, Global};
 
@@ -49,7 +49,9 @@ fn delays_of(alloc: Global, network: &Network, stream: u32) -> Result<Vec<u8>, S
     let topology = network.topology();
     match make(alloc, network) {
         Ok(certificate) => Ok(text_of(alloc, network, &certificate, stream)?),
-        Err(Failure::Fault(reason)) => Err(Stop::Refused(refused(alloc, topology, &reason)?)),
+        Err(Failure::Fault(reason)) => Err(Stop::Refused(refused_network(
+            alloc, topology, &reason,
+        )?)),
         Err(Failure::NoMemory) => Err(Stop::NoMemory),
     }
 }

@@ -13,7 +13,7 @@ use Rattle.ats_verdict_text.specs.Text.{reason_text, refused_text}
 use Rattle.ats_command_input.specs.Answer.{Answer}
 use Rattle.ats_command_input.specs.declared.status.Status.TheVariants as status
 use Rattle.ats_command_due.specs.Judged.{explain_judged, judged}
-use Rattle.ats_verdict_commands.proofs.Judging.{reason_inside}
+use Rattle.ats_verdict_text.proofs.ReasonPorts.{reason_inside}
 
 -- a refusal with this text
 refused_with : List ℕ → Result (List ℕ) Answer

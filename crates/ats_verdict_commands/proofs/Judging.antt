@@ -7,7 +7,6 @@ use Rattle.ats_certificate.specs.declared.row.Row.{Row}
 use Rattle.ats_certificate_file.specs.Text.{certificate_text}
 use Rattle.ats_bound.specs.Least.{least_certificate}
 use Rattle.ats_bound.specs.Reason.{reason_of}
-use Rattle.ats_tally.specs.Reason.{ReasonInside}
 use Rattle.ats_tally.specs.declared.reason.Reason.{Reason}
 use Rattle.ats_bound.proofs.LeastHolds.{ports_exist}
 use Rattle.ats_checker.specs.Ports.{RowsInside}
@@ -15,7 +14,6 @@ use Rattle.ats_checker.specs.Refusal.{refusal_of}
 use Rattle.ats_checker.specs.declared.refusal.Refusal.{Refusal}
 use Rattle.ats_checker.proofs.Refused.{refused_unless_holding}
 use Rattle.ats_verdict_text.specs.Text.{accepted_text, reason_text, refusal_text, refused_text}
-use Rattle.ats_verdict_text.proofs.ReasonPorts.{each_reason_is_inside}
 use Rattle.ats_command_input.specs.Answer.{Answer}
 use Rattle.ats_command_due.specs.Judged.{judged, bound_judged, check_judged}
 use Rattle.ats_command_input.specs.declared.status.Status.TheVariants as status
@@ -30,12 +28,6 @@ pub least_inside : (network : DeclaredNetwork) (topology : DeclaredTopology) (ro
 least_inside network topology rows is same least =
     subst (λ (t : DeclaredTopology). RowsInside t rows) (sym same)
     (subst (λ (r : List Row). RowsInside network.topology r) (sym least) (ports_exist network is))
-
--- so is the port of a reason
-pub reason_inside : (network : DeclaredNetwork) (topology : DeclaredTopology) (reason : Reason) → IsNetwork network
-    → topology ≡ network.topology → reason_of network ≡ Some reason → ReasonInside topology reason
-reason_inside network topology reason is same why =
-    subst (λ (t : DeclaredTopology). ReasonInside t reason) (sym same) (each_reason_is_inside network reason is why)
 
 -- the text of the certificate with the least waits, where there is no reason against the network
 pub bound_text : (network : DeclaredNetwork) (topology : DeclaredTopology) (rows : List Row) (text : List ℕ)

@@ -12,7 +12,6 @@ ghost use Rattle.ats_command_input.specs.Outcome.{Gives, ReadsFile};
 ghost use Rattle.ats_command_due.specs.Calls.{Answers, ReadsFiles};
 ghost use Rattle.ats_command_due.specs.Judged.{admission_judged, requests_judged};
 
-use crate::bound_command::refused;
 use ats_admission::Session;
 use ats_admission_text::answered;
 use ats_command_input::{Stop, network_in, requests_in};
@@ -21,6 +20,7 @@ use ats_network::Network;
 use ats_num::Failure;
 use ats_requests::Request;
 use ats_tally::Reason;
+use ats_verdict_text::refused_network;
 use std::alloc::{AllocError, Global};
 
 /// The text of `admit NET REQUESTS`: the answers to the requests, one after the other, each given for the network as
@@ -83,7 +83,7 @@ fn refusal_for(alloc: Global, network: &Network, failure: Failure<Reason>) -> Re
 {
     let topology = network.topology();
     match failure {
-        Failure::Fault(reason) => Err(Stop::Refused(refused(alloc, topology, &reason)?)),
+        Failure::Fault(reason) => Err(Stop::Refused(refused_network(alloc, topology, &reason)?)),
         Failure::NoMemory => Err(Stop::NoMemory),
     }
 }

@@ -1,10 +1,9 @@
 //! `check NET CERT`: judges a certificate of a network, and gives the sums.
 
-ghost use Rattle.std.specs.Prelude.{◌≡◌, IfOk, IsErrOf, OnOk};
+ghost use Rattle.std.specs.Prelude.{IfOk, IsErrOf, OnOk};
 ghost use Rattle.ats_io.specs.Outside.{IfTold};
 ghost use Rattle.ats_certificate.specs.Certificate.{Holds};
-ghost use Rattle.ats_checker.specs.Ports.{RefusalInside, RowsInside};
-ghost use Rattle.ats_verdict_text.specs.Text.{refusal_text, refused_text};
+ghost use Rattle.ats_checker.specs.Ports.{RowsInside};
 ghost use Rattle.ats_command_input.specs.Command as table;
 ghost use Rattle.ats_command_due.specs.Calls.{Answers, ReadsFiles};
 ghost use Rattle.ats_command_due.specs.Judged.{certificate_judged, check_judged};
@@ -12,14 +11,12 @@ ghost use Rattle.ats_command_input.specs.Outcome.{Gives, ReadsFile};
 ghost use Rattle.ats_command_due.specs.Soundness.{IsSoundFile, IsSoundText, Promises};
 
 use ats_certificate::Certificate;
-use ats_checker::Refusal;
 use ats_command_input::{Stop, certificate_in, network_in};
 use ats_io::Files;
 use ats_network::Network;
 use ats_num::Failure;
-use ats_topology::Topology;
-use ats_verdict_text::{accepted, write_refusal};
-use std::alloc::{AllocError, Global};
+use ats_verdict_text::{accepted, refused_certificate};
+use std::alloc::Global;
 
 /// The text of `check NET CERT`: the bounds and sums of the certificate, which are sound. It stops where the network's
 /// file and then where the certificate's has a fault or can't be read, and where the certificate does not hold.
@@ -71,18 +68,9 @@ pub fn judgement_of(
     let topology = network.topology();
     match ats_checker::check(alloc, network, certificate) {
         Ok(delays) => Ok(accepted(alloc, &delays)?),
-        Err(Failure::Fault(refusal)) => Err(Stop::Refused(refused(alloc, topology, &refusal)?)),
+        Err(Failure::Fault(refusal)) => Err(Stop::Refused(refused_certificate(
+            alloc, topology, &refusal,
+        )?)),
         Err(Failure::NoMemory) => Err(Stop::NoMemory),
     }
-}
-
-/// The line that says why a certificate does not hold. `AllocError` where there is no memory for it.
-pub fn refused(alloc: Global, topology: &Topology, refusal: &Refusal) -> Result<Vec<u8>, AllocError>
-    requires { RefusalInside topology.now refusal.now }
-    ensures { IfOk result (λ text. text.items ≡ refused_text (refusal_text topology.now refusal.now)) }
-{
-    let mut text = Vec::from_slice(alloc, b"refused ")?;
-    write_refusal(&mut text, topology, refusal)?;
-    text.extend_from_slice(b"\n")?;
-    Ok(text)
 }

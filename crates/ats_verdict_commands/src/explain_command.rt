@@ -6,13 +6,13 @@ ghost use Rattle.ats_command_input.specs.Outcome.{Gives};
 ghost use Rattle.ats_command_due.specs.Calls.{Answers, ReadsFiles};
 ghost use Rattle.ats_command_due.specs.Judged.{explain_judged};
 
-use crate::bound_command::refused;
 use ats_command_input::{Stop, network_in};
 use ats_explain::Explanation;
 use ats_explain_text::explained;
 use ats_io::Files;
 use ats_network::Network;
 use ats_num::Failure;
+use ats_verdict_text::refused_network;
 use std::alloc::Global;
 
 /// The text of `explain NET`. It stops where the network's file has a fault or can't be read, and
@@ -33,7 +33,9 @@ fn explanation_of(alloc: Global, network: &Network) -> Result<Vec<u8>, Stop>
     let topology = network.topology();
     match Explanation::new(alloc, network) {
         Ok(explanation) => Ok(explained(alloc, &explanation)?),
-        Err(Failure::Fault(reason)) => Err(Stop::Refused(refused(alloc, topology, &reason)?)),
+        Err(Failure::Fault(reason)) => Err(Stop::Refused(refused_network(
+            alloc, topology, &reason,
+        )?)),
         Err(Failure::NoMemory) => Err(Stop::NoMemory),
     }
 }

@@ -1,17 +1,20 @@
 -- The ports that reasons name.
-use Rattle.std.proofs.Common.{get_or}
+use Rattle.std.proofs.Common.{◌≡◌, Some, get_or, sym, subst}
+use Rattle.ats_topology.specs.Topology.{DeclaredTopology}
 use Rattle.ats_streams.specs.Stream.{DeclaredStream}
+use Rattle.ats_network.specs.Network.{DeclaredNetwork, IsNetwork}
 use Rattle.ats_network.specs.Listeners.{Listener, listeners_of}
 use Rattle.ats_network.specs.Residence.{residence_after}
 use Rattle.ats_certificate.specs.Certificate.{bound_on}
 use Rattle.ats_certificate.specs.Used.{places_of}
 use Rattle.ats_certificate.specs.declared.row.Row.{Row}
 use Rattle.ats_tally.specs.Reason.{overstay, row_need, late, late_for, ReasonInside}
+use Rattle.ats_tally.specs.declared.reason.Reason.{Reason}
 use Rattle.ats_tally.proofs.Firsts.{first_where, or_where}
 use Rattle.ats_tally.proofs.Places.{is_place, places_used}
 use Rattle.ats_tally.proofs.Reasons.{overload_inside, overstay_inside, late_inside}
 use Rattle.ats_bound.specs.Least.{least_certificate}
-use Rattle.ats_bound.specs.Reason.{load_at, overload}
+use Rattle.ats_bound.specs.Reason.{load_at, overload, reason_of}
 use Rattle.ats_bound.proofs.LeastHolds.{ports_exist}
 use Rattle.ats_verdict_text.specs.Laws.{EachReasonIsInside}
 
@@ -40,3 +43,9 @@ each_reason_is_inside network found is some =
     late_inside network.topology stream listener.name
     (bound_on (least_certificate network) stream listener.route) r))))))
     some
+
+-- as a topology that is the network's
+pub reason_inside : (network : DeclaredNetwork) (topology : DeclaredTopology) (reason : Reason) → IsNetwork network
+    → topology ≡ network.topology → reason_of network ≡ Some reason → ReasonInside topology reason
+reason_inside network topology reason is same why =
+    subst (λ (t : DeclaredTopology). ReasonInside t reason) (sym same) (each_reason_is_inside network reason is why)

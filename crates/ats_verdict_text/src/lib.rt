@@ -7,7 +7,9 @@ pub mod laws;
 mod pieces;
 pub mod reasons;
 pub mod refusals;
+pub mod refused_lines;
 
 pub use acceptance::accepted;
 pub use reasons::write_reason;
 pub use refusals::write_refusal;
+pub use refused_lines::{refused_certificate, refused_network};

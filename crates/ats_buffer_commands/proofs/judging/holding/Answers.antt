@@ -10,9 +10,10 @@ pub returns-in-Ok-clause-due : goal.returns-in-Ok-clause-due
 returns-in-Ok-clause-due c =
     holding_gives c.args.network.now c.args.certificate.now tt c.topology-topology.ensures.rules c.in-Ok.ensures.holds
 
-pub returns-in_ok-refused-in-Err-Fault-clause-due : goal.returns-in_ok-refused-in-Err-Fault-clause-due
-returns-in_ok-refused-in-Err-Fault-clause-due c =
+pub returns-in_ok-refused_certificate-in-Err-Fault-clause-due
+    : goal.returns-in_ok-refused_certificate-in-Err-Fault-clause-due
+returns-in_ok-refused_certificate-in-Err-Fault-clause-due c =
     refused_gives c.args.network.now c.args.certificate.now tt c.topology-topology.result.now c.in-Err-Fault.refusal
-    c.in_ok-refused-in-Err-Fault.field-0.items c.topology-topology.ensures.value
+    c.in_ok-refused_certificate-in-Err-Fault.field-0.items c.topology-topology.ensures.value
     (subst (λ (failure : Failure Refusal). IsDue failure (refusal_of c.args.network.now c.args.certificate.now))
-    c.in-Err-Fault.field-0-is c.in-Err-Fault.ensures.refused) c.in_ok-refused-in-Err-Fault.ensures
+    c.in-Err-Fault.field-0-is c.in-Err-Fault.ensures.refused) c.in_ok-refused_certificate-in-Err-Fault.ensures

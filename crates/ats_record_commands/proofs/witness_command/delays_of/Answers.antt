@@ -4,12 +4,12 @@ use Rattle.ats_num.specs.declared.failure.Failure.{Failure}
 use Rattle.ats_bound.specs.Reason.{reason_of}
 use Rattle.ats_tally.specs.declared.reason.Reason.{Reason}
 use Rattle.ats_command_due.specs.Witnessed.{witnessed}
-use Rattle.ats_verdict_commands.proofs.Judging.{reason_inside}
+use Rattle.ats_verdict_text.proofs.ReasonPorts.{reason_inside}
 use Rattle.ats_record_commands.proofs.Witnessing.{no_reason_passes, reason_refuses}
 use Rattle.ats_record_commands.proofs.witness_command.delays_of.Goals as goal
 
-pub refused-requires : goal.refused-requires
-refused-requires c =
+pub refused_network-requires : goal.refused_network-requires
+refused_network-requires c =
     reason_inside c.args.network.now c.topology-topology.result.now c.in-Err-Fault.reason
     c.topology-topology.ensures.rules c.topology-topology.ensures.value
     (subst (λ (answer : Failure Reason). IsDue answer (reason_of c.args.network.now))
@@ -22,9 +22,9 @@ returns-in_ok-text_of-in-Ok-clause-due c = (
   c.in_ok-text_of-in-Ok.ensures,
 )
 
-pub returns-in_ok-refused-in-Err-Fault-clause-due : goal.returns-in_ok-refused-in-Err-Fault-clause-due
-returns-in_ok-refused-in-Err-Fault-clause-due c =
+pub returns-in_ok-refused_network-in-Err-Fault-clause-due : goal.returns-in_ok-refused_network-in-Err-Fault-clause-due
+returns-in_ok-refused_network-in-Err-Fault-clause-due c =
     reason_refuses c.args.network.now c.args.stream c.topology-topology.result.now c.in-Err-Fault.reason
-    c.in_ok-refused-in-Err-Fault.field-0.items c.topology-topology.ensures.value
+    c.in_ok-refused_network-in-Err-Fault.field-0.items c.topology-topology.ensures.value
     (subst (λ (answer : Failure Reason). IsDue answer (reason_of c.args.network.now))
-    c.in-Err-Fault.field-0-is c.in-Err-Fault.ensures.reason) c.in_ok-refused-in-Err-Fault.ensures
+    c.in-Err-Fault.field-0-is c.in-Err-Fault.ensures.reason) c.in_ok-refused_network-in-Err-Fault.ensures

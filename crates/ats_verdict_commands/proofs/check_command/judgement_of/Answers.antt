@@ -27,9 +27,10 @@ returns-in_ok-accepted-in-Ok-clause-sound c = record {
       ∙ ap (λ (d : NetworkRows). accepted_text d.network d.rows) c.in-Ok.ensures.ok;
 }
 
-pub returns-in_ok-refused-in-Err-Fault-clause-due : goal.returns-in_ok-refused-in-Err-Fault-clause-due
-returns-in_ok-refused-in-Err-Fault-clause-due c =
+pub returns-in_ok-refused_certificate-in-Err-Fault-clause-due
+    : goal.returns-in_ok-refused_certificate-in-Err-Fault-clause-due
+returns-in_ok-refused_certificate-in-Err-Fault-clause-due c =
     check_refused c.args.network.now c.args.certificate.now c.topology-topology.result.now c.in-Err-Fault.refusal
-    c.in_ok-refused-in-Err-Fault.field-0.items c.topology-topology.ensures.value
+    c.in_ok-refused_certificate-in-Err-Fault.field-0.items c.topology-topology.ensures.value
     (subst (λ (failure : Failure Refusal). IsDue failure (refusal_of c.args.network.now c.args.certificate.now))
-    c.in-Err-Fault.field-0-is c.in-Err-Fault.ensures.refused) c.in_ok-refused-in-Err-Fault.ensures
+    c.in-Err-Fault.field-0-is c.in-Err-Fault.ensures.refused) c.in_ok-refused_certificate-in-Err-Fault.ensures

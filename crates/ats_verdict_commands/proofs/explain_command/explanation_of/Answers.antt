@@ -9,8 +9,8 @@ use Rattle.ats_explain_text.specs.Text.{explain_text}
 use Rattle.ats_verdict_commands.proofs.Explaining.{overload_inside, explain_text_is, explain_refused}
 use Rattle.ats_verdict_commands.proofs.explain_command.explanation_of.Goals as goal
 
-pub refused-requires : goal.refused-requires
-refused-requires c =
+pub refused_network-requires : goal.refused_network-requires
+refused_network-requires c =
     overload_inside c.args.network.now c.topology-topology.result.now c.in-Err-Fault.reason
     c.topology-topology.ensures.rules c.topology-topology.ensures.value
     (subst (λ (answer : Failure Reason). IsDue answer (first_some (overload c.args.network.now)
@@ -21,10 +21,10 @@ returns-in_ok-explained-in-Ok-clause-due c =
     explain_text_is c.args.network.now c.in_ok-explained-in-Ok.field-0.items c.in-Ok.ensures.carries
     (c.in_ok-explained-in-Ok.ensures ∙ ap explain_text c.in-Ok.ensures.value)
 
-pub returns-in_ok-refused-in-Err-Fault-clause-due : goal.returns-in_ok-refused-in-Err-Fault-clause-due
-returns-in_ok-refused-in-Err-Fault-clause-due c =
+pub returns-in_ok-refused_network-in-Err-Fault-clause-due : goal.returns-in_ok-refused_network-in-Err-Fault-clause-due
+returns-in_ok-refused_network-in-Err-Fault-clause-due c =
     explain_refused c.args.network.now c.topology-topology.result.now c.in-Err-Fault.reason
-    c.in_ok-refused-in-Err-Fault.field-0.items c.topology-topology.ensures.value
+    c.in_ok-refused_network-in-Err-Fault.field-0.items c.topology-topology.ensures.value
     (subst (λ (answer : Failure Reason). IsDue answer (first_some (overload c.args.network.now)
     (places_of c.args.network.now))) c.in-Err-Fault.field-0-is c.in-Err-Fault.ensures.reason)
-    c.in_ok-refused-in-Err-Fault.ensures
+    c.in_ok-refused_network-in-Err-Fault.ensures
