@@ -4,7 +4,6 @@ pub mod SetAndHeld
 pub mod Occupied
 pub mod Peaks
 pub mod WordsNone
-pub mod ConclusionsShown
 pub mod TextsShown
 pub mod RepliesShown
 pub mod PremisesShown

@@ -1,7 +1,6 @@
 //! Worked calls: the bytes of their files, and the answers that are due.
 
 ghost use Rattle.ats_answer_examples.specs.Captured.{CapturesAreMeant};
-ghost use Rattle.ats_answer_examples.specs.Concluded.{ConclusionsAreShown};
 ghost use Rattle.ats_answer_examples.specs.Keeping.{KeepingIsMeant};
 ghost use Rattle.ats_answer_examples.specs.Metered.{MeteringIsMeant};
 ghost use Rattle.ats_answer_examples.specs.Premises.{PremisesAreShown};
@@ -52,14 +51,9 @@ pub fn words_are_none()
     ensures { WordsAreNone }
 {}
 
-/// What words say that laws conclude of bursts, releases, buffers and bounds: each of something of which it is so, and
-/// beside it of others, with one thing changed, of which it is not.
-pub fn conclusions_are_shown()
-    ensures { ConclusionsAreShown }
-{}
-
-/// The same of the texts of `check`, `replay` and `generate` and of the answers to `bound`, on the files of the worked
-/// calls.
+/// What words say that laws conclude of the texts of `check`, `replay` and `generate` and of the answers to `bound`, on
+/// the files of the worked calls: each of something of which it is so, and beside it of others, with one thing changed,
+/// of which it is not.
 pub fn texts_are_shown()
     ensures { TextsAreShown }
 {}

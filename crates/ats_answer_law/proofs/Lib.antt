@@ -10,6 +10,7 @@ pub mod Refused
 pub mod Meant
 pub mod JustOne
 pub mod Concluded
+pub mod ConclusionsShown
 pub mod Replied
 pub mod FormatClocks
 pub mod Networks

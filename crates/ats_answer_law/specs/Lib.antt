@@ -8,6 +8,7 @@ pub mod NoneMade
 pub mod Meant
 pub mod JustOne
 pub mod Concluded
+pub mod ConclusionsShown
 pub mod Replied
 pub mod Networks
 pub mod RunMeaning

@@ -2,6 +2,7 @@
 
 ghost use Rattle.ats_answer_law.specs.Accepted.{PromisesAreSound};
 ghost use Rattle.ats_answer_law.specs.Concluded.{ConclusionsAreMeant};
+ghost use Rattle.ats_answer_law.specs.ConclusionsShown.{ConclusionsAreShown};
 ghost use Rattle.ats_answer_law.specs.Due.{AdmitIsDue, BoundIsDue, CaptureIsDue, CheckIsDue, ConformIsDue};
 ghost use Rattle.ats_answer_law.specs.Due.{ExplainIsDue, GenerateIsDue, ReplayIsDue, ShapeIsDue, ShowIsDue};
 ghost use Rattle.ats_answer_law.specs.Due.{BuffersAreDue, LrqBoundIsDue, LrqCheckIsDue, LrqShapeIsDue, PeaksAreDue};
@@ -236,6 +237,12 @@ pub fn just_one_is_left()
 /// nodes. Each part is written out.
 pub fn conclusions_are_meant()
     ensures { ConclusionsAreMeant }
+{}
+
+/// The same of closed things: what those words say of bursts, releases, buffers and bounds, each of something of which
+/// it is so, and beside it of others, with one thing changed, of which it is not.
+pub fn conclusions_are_shown()
+    ensures { ConclusionsAreShown }
 {}
 
 /// What each answer to a request says of the network before it and of the one after it, and an answer to `bound` of the

@@ -25,8 +25,8 @@ use Rattle.ats_command_law.specs.FitMeaning.{IsJustEnough, StreamsHaveBursts}
 use Rattle.ats_answer_law.specs.NoneMade.{IsWhyNoneMade}
 use Rattle.ats_answer_law.proofs.Concluded.{conclusions_are_meant}
 use Rattle.ats_answer_law.proofs.Refused.{none_are_made_for_faults}
-use Rattle.ats_answer_examples.specs.Concluded.{BoundsAreSound, BuffersAreRoom, BurstsAreJust, ConclusionsAreShown}
-use Rattle.ats_answer_examples.specs.Concluded.{NoneMadeIsWhy, by_burst, slow, two_at_once}
+use Rattle.ats_answer_law.specs.ConclusionsShown.{BoundsAreSound, BuffersAreRoom, BurstsAreJust, ConclusionsAreShown}
+use Rattle.ats_answer_law.specs.ConclusionsShown.{NoneMadeIsWhy, by_burst, slow, two_at_once}
 
 -- with fewer bits than those of both frames the bucket does not let them through at once
 just : IsJustEnough fork two_at_once 1 24672
