@@ -1,0 +1,9 @@
+pub mod SenderProofs
+pub mod WalkProofs
+pub mod FaultProofs
+pub mod SpacingProofs
+pub mod FrameProofs
+pub mod FormatProofs
+pub mod PortProofs
+pub mod VerdictProofs
+pub mod ClockProofs

@@ -1,0 +1,9 @@
+pub mod Senders
+pub mod Walks
+pub mod Faults
+pub mod Spacing
+pub mod Frames
+pub mod Formats
+pub mod Ports
+pub mod Verdicts
+pub mod Clocks
