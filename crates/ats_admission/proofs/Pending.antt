@@ -16,7 +16,7 @@ use Rattle.ats_network.specs.Senders.{IsSender, no_sender}
 use Rattle.ats_network.specs.Tables.{stream_names}
 use Rattle.ats_network.proofs.SenderLemmas.{each_is_sender}
 use Rattle.ats_bound.specs.Reason.{reason_of}
-use Rattle.ats_admission_law.proofs.NoneRises.{less_has_no_reason}
+use Rattle.ats_requests.proofs.Keeps.{less_has_no_reason}
 use Rattle.ats_admission_shares.specs.PortShares.{stream_at, without_at}
 use Rattle.ats_admission_state.specs.Kept.{AreLeastBeside, IsKept, IsKeptBeside, KeptState, WasKept}
 use Rattle.ats_admission_state.proofs.Beside.{bounds_stay_beside}

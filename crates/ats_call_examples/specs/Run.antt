@@ -4,7 +4,7 @@ use Rattle.ats_command_input.specs.Command.{Witness}
 use Rattle.ats_command_input.specs.declared.order.Order.TheVariants.{Early, Late, Mixed}
 use Rattle.ats_command_input.specs.declared.status.Status.TheVariants.{Words}
 use Rattle.ats_command_due.specs.Due.{IsDueAnswer}
-use Rattle.ats_text_examples.specs.Captured.{low_header}
+use Rattle.ats_file_examples.specs.Captured.{low_header}
 use Rattle.ats_call_examples.specs.Files.{crowded_schedule, done_with, faulty_with, fork_text, late, network, no_text}
 use Rattle.ats_call_examples.specs.Files.{refused_with, rows, schedule, told, told_also}
 use Rattle.ats_call_examples.specs.Judged.{accepted}

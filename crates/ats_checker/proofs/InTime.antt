@@ -26,8 +26,8 @@ use Rattle.ats_soundness_law.proofs.Node.{bridges_keep}
 use Rattle.ats_soundness_law.proofs.Streams.{stream_exists}
 use Rattle.ats_soundness_law.proofs.TrueTime.{bridges_in_true_time, bridges_keep_in, certificate_is_sound}
 use Rattle.ats_soundness_law.proofs.TrueTime.{kept_in_true_time, station_keeps}
-use Rattle.ats_clock_run_law.specs.Laws.{IsLegalInTrueTime}
-use Rattle.ats_clock_run_law.proofs.TrueTime.{true_time_is_legal}
+use Rattle.ats_soundness_law.proofs.TrueTime.{IsLegalInTrueTime}
+use Rattle.ats_soundness_law.proofs.TrueTime.{true_time_is_legal}
 use Rattle.ats_checker.specs.InTime.{InTimeInTrueTime}
 use Rattle.ats_checker.specs.InTime.{HoldingIsInTime, SoundIsInTime, SoundIsOnTime, StationsAreInTime}
 use Rattle.ats_checker.specs.InTime.{StationsAreOnTime}

@@ -1,3 +1,5 @@
+pub use Rattle.ats_soundness_law.specs.Runs
+pub use Rattle.ats_soundness_law.specs.Sound
 pub mod Refusal
 pub mod Laws
 pub mod Ports

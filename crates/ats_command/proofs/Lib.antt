@@ -1,1 +1,2 @@
+pub use Rattle.ats_lrq_commands.proofs.Narrowed
 pub mod Ending

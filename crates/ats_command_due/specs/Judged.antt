@@ -10,9 +10,9 @@ use Rattle.ats_buffer_text.specs.Text.{buffers_text}
 use Rattle.ats_certificate.specs.Used.{places_of}
 use Rattle.ats_tally.specs.Reason.{first_some}
 use Rattle.ats_explain_text.specs.Text.{explain_text}
-use Rattle.ats_requests.specs.declared.request.Request.{Request}
+use Rattle.ats_command_input.specs.Request.{Request}
 use Rattle.ats_admission_text.specs.Text.{admission_text}
-use Rattle.ats_checker.specs.Refusal.{refusal_of}
+use Rattle.ats_verdict_text.specs.Refusal.{refusal_of}
 use Rattle.ats_verdict_text.specs.Text.{accepted_text, reason_text, refusal_text, refused_text}
 use Rattle.ats_num.specs.Failure.{◌>>=◌}
 use Rattle.ats_command_input.specs.Answer.{Answer}

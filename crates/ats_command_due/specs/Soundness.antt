@@ -1,9 +1,9 @@
 use Rattle.std.specs.Prelude.{◌≡◌, ℕ, List, Option, Ok}
 use Rattle.ats_network.specs.Network.{DeclaredNetwork}
 use Rattle.ats_certificate.specs.declared.row.Row.{Row}
-use Rattle.ats_soundness_law.specs.Runs.{Runs, ats_runs, in_true_time}
-use Rattle.ats_soundness_law.specs.Sound.{IsSoundBy}
-use Rattle.ats_checker.specs.InTime.{FramesAreInTimeBy}
+use Rattle.ats_verdict_text.specs.Runs.{Runs, ats_runs, in_true_time}
+use Rattle.ats_verdict_text.specs.Sound.{IsSoundBy}
+use Rattle.ats_verdict_text.specs.InTime.{FramesAreInTimeBy}
 use Rattle.ats_lrq.specs.Judge.{lrq_judge, spacing_rule}
 use Rattle.ats_verdict_text.specs.Text.{accepted_text}
 use Rattle.ats_io.specs.Outside.{appended}

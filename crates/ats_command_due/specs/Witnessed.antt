@@ -8,7 +8,7 @@ use Rattle.ats_bound.specs.Least.{least_certificate}
 use Rattle.ats_bound.specs.Reason.{reason_of}
 use Rattle.ats_trace.specs.Ways.{listener_count}
 use Rattle.ats_verdict_text.specs.Text.{reason_text}
-use Rattle.ats_witness.specs.Found.{AreFound, FoundDelays, bound_for}
+use Rattle.ats_witness_text.specs.Found.{AreFound, FoundDelays, bound_for}
 use Rattle.ats_witness_text.specs.Text.{witness_text}
 use Rattle.ats_num.specs.Failure.{◌>>=◌}
 use Rattle.ats_command_input.specs.Answer.{Answer}

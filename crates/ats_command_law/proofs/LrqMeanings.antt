@@ -19,7 +19,7 @@ use Rattle.ats_checker.proofs.Refused.{refused_unless_holding}
 use Rattle.ats_verdict_text.specs.Text.{accepted_text, reason_text, refusal_text}
 use Rattle.ats_lrq.specs.Narrow.{narrowed}
 use Rattle.ats_lrq_law.proofs.Narrowed.{narrowed_is_network, narrowed_is_sound}
-use Rattle.ats_lrq_commands.proofs.Narrowed.{narrowed_is_in_time, narrowed_text_is_sound}
+use Rattle.ats_command.proofs.Narrowed.{narrowed_is_in_time, narrowed_text_is_sound}
 use Rattle.ats_num.specs.Failure.{◌>>=◌}
 use Rattle.ats_command_input.specs.Answer.{Answer, settled}
 use Rattle.ats_command_input.specs.Input.{network_in, rows_in}

@@ -2,7 +2,7 @@ use Rattle.std.specs.Prelude.{◌≡◌, ℕ, List, [], ◌∷◌, ◌++◌, Som
 use Rattle.ats_pcap.specs.Capture.{records_of}
 use Rattle.ats_pcap.specs.declared.fault.CaptureFault.TheVariants.{BadMagic, CutShort, RecordTooLong}
 use Rattle.ats_pcap.specs.declared.record.Record.{Record}
-use Rattle.ats_text_examples.specs.Captured.{low_header}
+pub use Rattle.ats_text_examples.specs.Captured.{low_header}
 
 -- The bytes of a capture with four records.
 

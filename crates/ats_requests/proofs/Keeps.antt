@@ -15,10 +15,10 @@ use Rattle.ats_network.specs.Tables.{stream_names}
 use Rattle.ats_network.proofs.Edited.{without_network}
 use Rattle.ats_network.proofs.Pushed.{pushed_stream}
 use Rattle.ats_tally.specs.declared.reason.Reason.{Reason}
-use Rattle.ats_bound.specs.Reason.{reason_of}
+use Rattle.ats_admission_law.specs.Reason.{reason_of}
 use Rattle.ats_admission_law.proofs.Along.{reason_is_judged}
 use Rattle.ats_admission_law.proofs.Edits.{added_last, taken_out}
-use Rattle.ats_admission_law.proofs.NoneRises.{less_has_no_reason}
+pub use Rattle.ats_admission_law.proofs.NoneRises.{less_has_no_reason}
 use Rattle.ats_requests.specs.Admission.{admit_fault, after_admit, entry_fault, reason_with}
 use Rattle.ats_requests.specs.Laws.{AdmitIsJudged, IsCertified, StaysCertified}
 use Rattle.ats_requests.specs.Requests.{MayEnter}

@@ -9,8 +9,8 @@ use Rattle.ats_network.specs.Pushes.{with_stream, is_beyond, is_name_taken}
 use Rattle.ats_certificate.specs.Certificate.{bound_along}
 use Rattle.ats_certificate.specs.Used.{stream_classes}
 use Rattle.ats_tally.specs.declared.reason.Reason.{Reason}
-use Rattle.ats_bound.specs.Least.{least_certificate}
-use Rattle.ats_bound.specs.Reason.{reason_of}
+use Rattle.ats_admission_law.specs.Least.{least_certificate}
+use Rattle.ats_admission_law.specs.Reason.{reason_of}
 use Rattle.ats_requests.specs.declared.denied.Denied.{Denied}
 use Rattle.ats_requests.specs.declared.denied.Denied.TheVariants.{NameTaken, NameUnknown, Limit, Because, NoClass}
 

@@ -4,7 +4,7 @@ use Rattle.ats_streams.specs.Stream.{DeclaredStream, IsClass, with_class}
 use Rattle.ats_network.specs.Network.{DeclaredNetwork, IsNetwork}
 use Rattle.ats_network.specs.Pushes.{with_stream, stream_push_fault}
 use Rattle.ats_tally.specs.declared.reason.Reason.{Reason}
-use Rattle.ats_bound.specs.Reason.{reason_of}
+use Rattle.ats_admission_law.specs.Reason.{reason_of}
 use Rattle.ats_admission_law.specs.Near.{reason_judged}
 use Rattle.ats_requests.specs.Admission.{entry_fault, reason_with, admit, admit_lowest}
 use Rattle.ats_requests.specs.Entry.{by_fault}

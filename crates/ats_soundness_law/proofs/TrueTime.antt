@@ -15,8 +15,8 @@ use Rattle.ats_trace.specs.Journey.{Travel}
 use Rattle.ats_trace.specs.Run.{releases_of}
 use Rattle.ats_trace.specs.Talker.{KeepsBuckets, read_by}
 use Rattle.ats_trace.specs.declared.journey.Release.{Release}
-use Rattle.ats_clock_run_law.specs.Laws.{IsLegalInTrueTime}
-use Rattle.ats_clock_run_law.proofs.TrueTime.{true_time_is_legal}
+pub use Rattle.ats_clock_run_law.specs.Laws.{IsLegalInTrueTime}
+pub use Rattle.ats_clock_run_law.proofs.TrueTime.{true_time_is_legal}
 use Rattle.ats_network.specs.Senders.{sender_at}
 use Rattle.ats_trace.specs.Ways.{route_to}
 use Rattle.ats_soundness_law.specs.Laws.{CertificateIsSound, Containment, PathLaw, SoundByClocks, SoundInTrueTime}

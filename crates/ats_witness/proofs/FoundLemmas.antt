@@ -21,7 +21,7 @@ use Rattle.ats_certificate.specs.Certificate.{Holds}
 use Rattle.ats_certificate.specs.PortSums.{uses}
 use Rattle.ats_certificate.specs.declared.row.Row.{Row}
 use Rattle.ats_checker.proofs.InTime.{holding_is_in_time, in_time_in_true_time}
-use Rattle.ats_soundness_law.specs.Sound.{ArrivesBy}
+use Rattle.ats_checker.specs.Sound.{ArrivesBy}
 use Rattle.ats_trace.specs.Journey.{IsJourney, Leg, Travel, legs_in, no_leg}
 use Rattle.ats_trace.specs.Run.{IsIdeal, releases_of}
 use Rattle.ats_trace.specs.Stored.{leg_in, no_travel}

@@ -1,1 +1,2 @@
+pub use Rattle.ats_witness.specs.Found
 pub mod Text
