@@ -7,3 +7,4 @@ pub mod FormatProofs
 pub mod PortProofs
 pub mod VerdictProofs
 pub mod ClockProofs
+pub mod LegProofs

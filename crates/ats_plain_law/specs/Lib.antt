@@ -7,3 +7,4 @@ pub mod Formats
 pub mod Ports
 pub mod Verdicts
 pub mod Clocks
+pub mod Legs

@@ -4,6 +4,7 @@ ghost use Rattle.ats_plain_law.specs.Clocks.{AllClocksArePlain};
 ghost use Rattle.ats_plain_law.specs.Faults.{FaultsArePlain};
 ghost use Rattle.ats_plain_law.specs.Formats.{FormatsArePlain};
 ghost use Rattle.ats_plain_law.specs.Frames.{FramesArePlain};
+ghost use Rattle.ats_plain_law.specs.Legs.{LegsArePlain};
 ghost use Rattle.ats_plain_law.specs.Ports.{PortsArePlain};
 ghost use Rattle.ats_plain_law.specs.Senders.{SendersArePlain};
 ghost use Rattle.ats_plain_law.specs.Spacing.{SpacingIsPlain};
@@ -57,4 +58,10 @@ pub fn verdicts_are_plain()
 /// make of a sender's rate and burst on its way.
 pub fn clocks_are_plain()
     ensures { AllClocksArePlain }
+{}
+
+/// How the ports of a stream are cut into legs and joined to routes, where branches may begin, and when legs make a
+/// tree.
+pub fn legs_are_plain()
+    ensures { LegsArePlain }
 {}
