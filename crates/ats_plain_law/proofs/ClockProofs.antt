@@ -19,6 +19,8 @@ nodes = record {
 
 clocks : ClocksArePlain
 clocks = record {
+  deviation = λ ppm step. refl;
+  step = λ ppm step. refl;
   may = λ ppm step. ((λ is. (is.deviation, is.step)), (λ is. record { deviation = is.0; step = is.1 }));
   keeps = λ clock shows. (
     (λ is. (is.in_order, is.no_slower, is.no_faster)),

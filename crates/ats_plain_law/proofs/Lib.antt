@@ -8,3 +8,6 @@ pub mod PortProofs
 pub mod VerdictProofs
 pub mod ClockProofs
 pub mod LegProofs
+pub mod JudgeProofs
+pub mod NameProofs
+pub mod BoundProofs

@@ -31,9 +31,12 @@ pub record NodesArePlain : Type 0 where
   pub linked : (links : List Link) (node : Node) → HasOneLink links node
       ↔ (count_by (λ (l : Link). bytes_eq l.a node.name || bytes_eq l.b node.name) links ≡ 1)
 
--- a clock may deviate by 1000 ppm and step by 10^7 ps, each of them with whichever the other is; it keeps to both where
--- it never goes back, and from any time to any later one gains no less and no more than its rate may give, but a step
+-- a clock has the deviation and the step that are declared, to the last ppm and picosecond; it may deviate by 1000 ppm
+-- and step by 10^7 ps, each of them with whichever the other is; and it keeps to both where it never goes back, and
+-- from any time to any later one gains no less and no more than its rate may give, but for a step
 pub record ClocksArePlain : Type 0 where
+  pub deviation : (ppm step : ℕ) → (declared_clock ppm step).deviation_ppm ≡ ppm
+  pub step : (ppm step : ℕ) → (declared_clock ppm step).step_ps ≡ step
   pub may : (ppm step : ℕ) → IsClock (declared_clock ppm step) ↔ ((ppm ≤ 1000) × (step ≤ 10000000))
   pub keeps : (clock : DeclaredClock) (shows : ℕ → ℕ) → KeepsClock clock shows
       ↔ (((s t : ℕ) → s ≤ t → shows s ≤ shows t)

@@ -8,3 +8,6 @@ pub mod Ports
 pub mod Verdicts
 pub mod Clocks
 pub mod Legs
+pub mod Judges
+pub mod Names
+pub mod Bounds

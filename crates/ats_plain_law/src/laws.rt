@@ -1,10 +1,13 @@
 //! What definitions that other laws cite on both sides, or ask for alone, come to in plainer words, for all inputs.
 
+ghost use Rattle.ats_plain_law.specs.Bounds.{BoundsArePlain};
 ghost use Rattle.ats_plain_law.specs.Clocks.{AllClocksArePlain};
 ghost use Rattle.ats_plain_law.specs.Faults.{FaultsArePlain};
 ghost use Rattle.ats_plain_law.specs.Formats.{FormatsArePlain};
 ghost use Rattle.ats_plain_law.specs.Frames.{FramesArePlain};
+ghost use Rattle.ats_plain_law.specs.Judges.{JudgesArePlain};
 ghost use Rattle.ats_plain_law.specs.Legs.{LegsArePlain};
+ghost use Rattle.ats_plain_law.specs.Names.{NamesArePlain};
 ghost use Rattle.ats_plain_law.specs.Ports.{PortsArePlain};
 ghost use Rattle.ats_plain_law.specs.Senders.{SendersArePlain};
 ghost use Rattle.ats_plain_law.specs.Spacing.{SpacingIsPlain};
@@ -64,4 +67,21 @@ pub fn clocks_are_plain()
 /// tree.
 pub fn legs_are_plain()
     ensures { LegsArePlain }
+{}
+
+/// How groups judge frames, one behind the other, by either regulator and within any residence, and what each verdict
+/// counts as.
+pub fn judges_are_plain()
+    ensures { JudgesArePlain }
+{}
+
+/// By which places nodes, ports and links go, which ports a link has, and by which names senders and listeners do.
+pub fn names_are_plain()
+    ensures { NamesArePlain }
+{}
+
+/// What ports see of senders, which rows cover their place and which are the least, and what is told of each listener
+/// and of all.
+pub fn bounds_are_plain()
+    ensures { BoundsArePlain }
 {}
