@@ -11,3 +11,5 @@ pub mod LegProofs
 pub mod JudgeProofs
 pub mod NameProofs
 pub mod BoundProofs
+pub mod RequestProofs
+pub mod SettingProofs

@@ -11,3 +11,5 @@ pub mod Legs
 pub mod Judges
 pub mod Names
 pub mod Bounds
+pub mod Requests
+pub mod Settings

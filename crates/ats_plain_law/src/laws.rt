@@ -9,7 +9,9 @@ ghost use Rattle.ats_plain_law.specs.Judges.{JudgesArePlain};
 ghost use Rattle.ats_plain_law.specs.Legs.{LegsArePlain};
 ghost use Rattle.ats_plain_law.specs.Names.{NamesArePlain};
 ghost use Rattle.ats_plain_law.specs.Ports.{PortsArePlain};
+ghost use Rattle.ats_plain_law.specs.Requests.{RequestsArePlain};
 ghost use Rattle.ats_plain_law.specs.Senders.{SendersArePlain};
+ghost use Rattle.ats_plain_law.specs.Settings.{SettingsArePlain};
 ghost use Rattle.ats_plain_law.specs.Spacing.{SpacingIsPlain};
 ghost use Rattle.ats_plain_law.specs.Verdicts.{VerdictsArePlain};
 ghost use Rattle.ats_plain_law.specs.Walks.{WalksArePlain};
@@ -84,4 +86,14 @@ pub fn names_are_plain()
 /// and of all.
 pub fn bounds_are_plain()
     ensures { BoundsArePlain }
+{}
+
+/// How requests are answered one behind the other, the first of the network as it was declared, and why one is denied.
+pub fn requests_are_plain()
+    ensures { RequestsArePlain }
+{}
+
+/// What a bridge is told of each place of a sender's ports, and in which order.
+pub fn settings_are_plain()
+    ensures { SettingsArePlain }
 {}
