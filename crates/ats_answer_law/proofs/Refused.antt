@@ -1,6 +1,6 @@
 -- Why `generate` makes no releases.
 use Rattle.std.proofs.Common.{◌≡◌, ◌<◌, Bool, true, false, List, length, Option, Some, None, refl}
-use Rattle.std.proofs.Common.{inl, inr, arith}
+use Rattle.std.proofs.Common.{inl, inr, arith, ap}
 use Rattle.std.specs.Prelude.{nat_lt, ◌==◌, if◌then◌else◌}
 use Rattle.std.specs.List.{Any, list_any}
 use Rattle.std.proofs.lemmas.Bool.{eqb-true, ltb-true, or_cases}
@@ -12,7 +12,8 @@ use Rattle.ats_trace.specs.declared.run.TheConstants.{MAX_HOPS, MAX_RELEASE_PS}
 use Rattle.ats_gen.specs.Made.{are_over, made}
 use Rattle.ats_gen.specs.declared.fault.GenFault.{GenFault}
 use Rattle.ats_gen.specs.declared.fault.GenFault.TheVariants.{NoStream, Limit}
-use Rattle.ats_answer_law.specs.NoneMade.{IsWhyNoneMade, NoneAreMadeForFaults}
+use Rattle.ats_command_due.specs.Generated.{made_for, network_unless}
+use Rattle.ats_answer_law.specs.NoneMade.{FaultsLeaveNone, IsWhyNoneMade, NoneAreMadeForFaults}
 
 -- a fault by two tests
 abbrev fault_by : Bool → Bool → Option GenFault
@@ -56,3 +57,10 @@ none_are_made_for_faults network seed count Limit told =
       | inl late ↦ inl (late_one (made network seed count) late)
       | inr over ↦ inr (many network (made network seed count) over)
     ]
+
+pub faults_leave_none : FaultsLeaveNone
+unfolding made_for
+faults_leave_none = record {
+  faulted = λ network seed count fault is. ap (λ (o : Option GenFault). network_unless network o) is;
+  faultless = λ network seed count is. ap (λ (o : Option GenFault). network_unless network o) is;
+}

@@ -12,7 +12,7 @@ ghost use Rattle.ats_answer_law.specs.Faults.{FaultsAreTold};
 ghost use Rattle.ats_answer_law.specs.JustOne.{JustOneIsLeft};
 ghost use Rattle.ats_answer_law.specs.Meant.{NothingLessIsMeant};
 ghost use Rattle.ats_answer_law.specs.Networks.{NetworksAreMeant};
-ghost use Rattle.ats_answer_law.specs.NoneMade.{NoneAreMadeForFaults};
+ghost use Rattle.ats_answer_law.specs.NoneMade.{FaultsLeaveNone, NoneAreMadeForFaults};
 ghost use Rattle.ats_answer_law.specs.Reached.{LaterFilesWait};
 ghost use Rattle.ats_answer_law.specs.Replied.{RepliesAreMeant};
 ghost use Rattle.ats_answer_law.specs.Runs.{PeaksAreHeld, RunsKeepTheirOrder};
@@ -213,6 +213,11 @@ pub fn later_files_wait()
 /// be made is later than those of a run may be, or their frames have more ports together than those of a run may have.
 pub fn none_are_made_for_faults()
     ensures { NoneAreMadeForFaults }
+{}
+
+/// Just where there is such a fault `generate` is refused, with its words, and else the network is run.
+pub fn faults_leave_none()
+    ensures { FaultsLeaveNone }
 {}
 
 /// What the words come to in which the laws of `ats_command_law` say what follows: of delays, each frame is served and

@@ -13,3 +13,4 @@ pub mod NameProofs
 pub mod BoundProofs
 pub mod RequestProofs
 pub mod SettingProofs
+pub mod RunProofs

@@ -13,3 +13,4 @@ pub mod Names
 pub mod Bounds
 pub mod Requests
 pub mod Settings
+pub mod Runs

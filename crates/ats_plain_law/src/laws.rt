@@ -10,6 +10,7 @@ ghost use Rattle.ats_plain_law.specs.Legs.{LegsArePlain};
 ghost use Rattle.ats_plain_law.specs.Names.{NamesArePlain};
 ghost use Rattle.ats_plain_law.specs.Ports.{PortsArePlain};
 ghost use Rattle.ats_plain_law.specs.Requests.{RequestsArePlain};
+ghost use Rattle.ats_plain_law.specs.Runs.{RunsArePlain};
 ghost use Rattle.ats_plain_law.specs.Senders.{SendersArePlain};
 ghost use Rattle.ats_plain_law.specs.Settings.{SettingsArePlain};
 ghost use Rattle.ats_plain_law.specs.Spacing.{SpacingIsPlain};
@@ -96,4 +97,10 @@ pub fn requests_are_plain()
 /// What a bridge is told of each place of a sender's ports, and in which order.
 pub fn settings_are_plain()
     ensures { SettingsArePlain }
+{}
+
+/// What comes of a frame once at each port, and is counted once for each listener; and what a network with narrowed
+/// bursts has as it was.
+pub fn runs_are_plain()
+    ensures { RunsArePlain }
 {}
