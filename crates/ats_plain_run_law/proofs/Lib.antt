@@ -1,0 +1,9 @@
+pub mod JourneyProofs
+pub mod TellingProofs
+pub mod ReleaseProofs
+pub mod ClockProofs
+pub mod TalkerProofs
+pub mod MeasureProofs
+pub mod MakingProofs
+pub mod WitnessProofs
+pub mod ByteProofs

@@ -1,0 +1,9 @@
+pub mod Journeys
+pub mod Tellings
+pub mod Releases
+pub mod Clocks
+pub mod Talkers
+pub mod Measures
+pub mod Makings
+pub mod Witnesses
+pub mod Bytes
