@@ -1,0 +1,9 @@
+pub mod Steps
+pub mod KeyProofs
+pub mod ValueProofs
+pub mod TableProofs
+pub mod EntryProofs
+pub mod DocumentProofs
+pub mod RouteProofs
+pub mod SenderProofs
+pub mod NetworkProofs

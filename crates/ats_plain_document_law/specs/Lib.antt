@@ -1,0 +1,9 @@
+pub mod Faults
+pub mod Keys
+pub mod Values
+pub mod Tables
+pub mod Entries
+pub mod Documents
+pub mod Routes
+pub mod Senders
+pub mod Networks
