@@ -1,0 +1,10 @@
+pub mod ShowProofs
+pub mod ExplainProofs
+pub mod CheckProofs
+pub mod AdmitProofs
+pub mod ReplayProofs
+pub mod ReportProofs
+pub mod BufferProofs
+pub mod FitProofs
+pub mod SettingTableProofs
+pub mod WitnessProofs

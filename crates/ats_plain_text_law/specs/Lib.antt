@@ -1,0 +1,10 @@
+pub mod Shows
+pub mod Explains
+pub mod Checks
+pub mod Admits
+pub mod Replays
+pub mod Reports
+pub mod Buffers
+pub mod Fits
+pub mod SettingTables
+pub mod Witnesses

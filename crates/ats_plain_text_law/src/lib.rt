@@ -1,0 +1,4 @@
+//! What is printed, line by line, written out in the words below.
+#![tactic(auto)]
+
+pub mod laws;
