@@ -1,0 +1,11 @@
+pub mod Stepping
+pub mod Reading
+pub mod FileProofs
+pub mod NamedProofs
+pub mod BoundProofs
+pub mod RunProofs
+pub mod JudgedProofs
+pub mod CommandProofs
+pub mod CallProofs
+pub mod ViewProofs
+pub mod VerbProofs

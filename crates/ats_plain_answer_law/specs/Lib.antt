@@ -1,0 +1,10 @@
+pub mod Lines
+pub mod Files
+pub mod Named
+pub mod Bounds
+pub mod Runs
+pub mod Judged
+pub mod Commands
+pub mod Calls
+pub mod Views
+pub mod Verbs
