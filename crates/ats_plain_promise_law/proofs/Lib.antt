@@ -1,0 +1,3 @@
+pub mod TrueTimeProofs
+pub mod WayProofs
+pub mod PromiseProofs

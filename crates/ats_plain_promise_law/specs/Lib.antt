@@ -1,0 +1,3 @@
+pub mod TrueTimes
+pub mod Ways
+pub mod Promises
