@@ -14,3 +14,4 @@ pub mod BoundProofs
 pub mod RequestProofs
 pub mod SettingProofs
 pub mod RunProofs
+pub mod ConstantProofs

@@ -14,3 +14,4 @@ pub mod Bounds
 pub mod Requests
 pub mod Settings
 pub mod Runs
+pub mod Constants

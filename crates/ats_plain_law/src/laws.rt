@@ -2,6 +2,7 @@
 
 ghost use Rattle.ats_plain_law.specs.Bounds.{BoundsArePlain};
 ghost use Rattle.ats_plain_law.specs.Clocks.{AllClocksArePlain};
+ghost use Rattle.ats_plain_law.specs.Constants.{ConstantsArePlain};
 ghost use Rattle.ats_plain_law.specs.Faults.{FaultsArePlain};
 ghost use Rattle.ats_plain_law.specs.Formats.{FormatsArePlain};
 ghost use Rattle.ats_plain_law.specs.Frames.{FramesArePlain};
@@ -103,4 +104,9 @@ pub fn settings_are_plain()
 /// bursts has as it was.
 pub fn runs_are_plain()
     ensures { RunsArePlain }
+{}
+
+/// Which number each constant of the code is that definitions name: units and limits.
+pub fn constants_are_plain()
+    ensures { ConstantsArePlain }
 {}
