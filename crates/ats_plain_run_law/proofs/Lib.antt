@@ -7,3 +7,4 @@ pub mod MeasureProofs
 pub mod MakingProofs
 pub mod WitnessProofs
 pub mod ByteProofs
+pub mod StepProofs

@@ -7,3 +7,4 @@ pub mod Measures
 pub mod Makings
 pub mod Witnesses
 pub mod Bytes
+pub mod Steps

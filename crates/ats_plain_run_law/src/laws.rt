@@ -6,6 +6,7 @@ ghost use Rattle.ats_plain_run_law.specs.Journeys.{JourneysArePlain};
 ghost use Rattle.ats_plain_run_law.specs.Makings.{MakingsArePlain};
 ghost use Rattle.ats_plain_run_law.specs.Measures.{MeasuresArePlain};
 ghost use Rattle.ats_plain_run_law.specs.Releases.{ReleasesArePlain};
+ghost use Rattle.ats_plain_run_law.specs.Steps.{StepsArePlain};
 ghost use Rattle.ats_plain_run_law.specs.Talkers.{TalkersArePlain};
 ghost use Rattle.ats_plain_run_law.specs.Tellings.{TellingsArePlain};
 ghost use Rattle.ats_plain_run_law.specs.Witnesses.{WitnessesArePlain};
@@ -53,4 +54,9 @@ pub fn witnesses_are_plain()
 /// The bytes of a port's capture.
 pub fn bytes_are_plain()
     ensures { BytesArePlain }
+{}
+
+/// What becomes of a frame at each port of its way, and behind the last.
+pub fn steps_are_plain()
+    ensures { StepsArePlain }
 {}
