@@ -1,3 +1,3 @@
 pub mod TrueTimeProofs
-pub mod WayProofs
+pub mod PromptnessProofs
 pub mod PromiseProofs

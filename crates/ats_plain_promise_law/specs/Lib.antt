@@ -1,3 +1,3 @@
 pub mod TrueTimes
-pub mod Ways
+pub mod Promptness
 pub mod Promises

@@ -28,8 +28,8 @@ BridgesDo Keeps network ports = All (λ p. IsBridgeAt network.topology (port_at 
     → Keeps (port_at network.topology.ports p).from) ports
 
 -- what is promised of a frame where nodes keep what is asked of them: if its talker does, it is served and arrives in
--- time at each listener such that the bridges on the way there do; and whether it does or not, it is contained on its
--- way to each listener such that the bridges on the way, but for the first, do
+-- time at each listener such that the bridges that ports of the route there leave do; and whether it does or not, it is
+-- contained on its way to each listener such that the bridges that ports of the route but the first leave do
 pub record IsKept (Keeps : ℕ → Type 0) (network : DeclaredNetwork) (rows : List Row) (journey : Travel) : Type 0 where
   pub served : IsOfStream network journey → Keeps (talker_of network journey.release.sender)
       → (listener : ℕ) → listener < listener_count (sender_at network journey.release.sender)

@@ -1,17 +1,17 @@
 //! What is promised of frames, and in which runs, in plainer words.
 
 ghost use Rattle.ats_plain_promise_law.specs.Promises.{PromisesArePlain};
+ghost use Rattle.ats_plain_promise_law.specs.Promptness.{PromptnessIsPlain};
 ghost use Rattle.ats_plain_promise_law.specs.TrueTimes.{TrueTimesArePlain};
-ghost use Rattle.ats_plain_promise_law.specs.Ways.{WaysArePlain};
 
 /// When a frame is eligible in true time that was told a time by a clock.
 pub fn true_times_are_plain()
     ensures { TrueTimesArePlain }
 {}
 
-/// When a frame arrives in time, and when it is contained on its way.
-pub fn ways_are_plain()
-    ensures { WaysArePlain }
+/// When a frame arrives by a time, and when it is contained on its way.
+pub fn promptness_is_plain()
+    ensures { PromptnessIsPlain }
 {}
 
 /// What each command promises of its text: of `check` and `lrq check`, of which frames in which runs, and of no other.

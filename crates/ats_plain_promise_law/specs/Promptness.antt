@@ -11,7 +11,7 @@ use Rattle.ats_soundness_law.specs.Sound.{ArrivesBy, IsContainedOn, IsPrompt}
 
 -- a frame arrives by a time where it arrives no later, and where it is discarded by none; and it is contained on its
 -- way where it is prompt from the second port on, if it is eligible there
-pub record WaysArePlain : Type 0 where
+pub record PromptnessIsPlain : Type 0 where
   pub arrives : (limit : ℕ) (at : Ps) → ArrivesBy limit (Sink at) ↔ (at.0 ≤ limit)
   pub discarded : (limit : ℕ) → ArrivesBy limit Discard ↔ ⊥
   pub contained : (rows : List Row) (sender : Sender) (route : List ℕ) (way : Leg)

@@ -8,7 +8,7 @@ use Rattle.ats_certificate.specs.declared.row.Row.{Row}
 use Rattle.ats_trace.specs.HopRecord.{HopRecord}
 use Rattle.ats_trace.specs.declared.journey.Ending.{Ending}
 use Rattle.ats_soundness_law.specs.Sound.{IsPrompt, IsPromptIfEligible, all_but_first, bounds_of}
-use Rattle.ats_plain_promise_law.specs.Ways.{WaysArePlain}
+use Rattle.ats_plain_promise_law.specs.Promptness.{PromptnessIsPlain}
 
 -- When frames are contained on their way.
 
@@ -46,8 +46,8 @@ back rows sender (p ∷ q ∷ path) (first ∷ hop ∷ later) ending says =
     on_eligible hop.verdict (λ at. IsPrompt (bounds_of rows sender) (at + bounds_of rows sender q) path later ending)
     (λ e is. says p q path first hop later e refl refl is)
 
-pub ways_are_plain : WaysArePlain
-ways_are_plain = record {
+pub promptness_is_plain : PromptnessIsPlain
+promptness_is_plain = record {
   arrives = λ limit at. ((λ is. is), (λ is. is));
   discarded = λ limit. ((λ is. is), (λ is. is));
   contained = λ rows sender route way. (
