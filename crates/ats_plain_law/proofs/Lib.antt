@@ -15,3 +15,5 @@ pub mod RequestProofs
 pub mod SettingProofs
 pub mod RunProofs
 pub mod ConstantProofs
+pub mod BrokenProofs
+pub mod RefusalProofs

@@ -15,3 +15,5 @@ pub mod Requests
 pub mod Settings
 pub mod Runs
 pub mod Constants
+pub mod Broken
+pub mod Refusals

@@ -1,6 +1,7 @@
 //! What definitions that other laws cite on both sides, or ask for alone, come to in plainer words, for all inputs.
 
 ghost use Rattle.ats_plain_law.specs.Bounds.{BoundsArePlain};
+ghost use Rattle.ats_plain_law.specs.Broken.{BrokenArePlain};
 ghost use Rattle.ats_plain_law.specs.Clocks.{AllClocksArePlain};
 ghost use Rattle.ats_plain_law.specs.Constants.{ConstantsArePlain};
 ghost use Rattle.ats_plain_law.specs.Faults.{FaultsArePlain};
@@ -10,6 +11,7 @@ ghost use Rattle.ats_plain_law.specs.Judges.{JudgesArePlain};
 ghost use Rattle.ats_plain_law.specs.Legs.{LegsArePlain};
 ghost use Rattle.ats_plain_law.specs.Names.{NamesArePlain};
 ghost use Rattle.ats_plain_law.specs.Ports.{PortsArePlain};
+ghost use Rattle.ats_plain_law.specs.Refusals.{RefusalsArePlain};
 ghost use Rattle.ats_plain_law.specs.Requests.{RequestsArePlain};
 ghost use Rattle.ats_plain_law.specs.Runs.{RunsArePlain};
 ghost use Rattle.ats_plain_law.specs.Senders.{SendersArePlain};
@@ -109,4 +111,14 @@ pub fn runs_are_plain()
 /// Which number each constant of the code is that definitions name: units and limits.
 pub fn constants_are_plain()
     ensures { ConstantsArePlain }
+{}
+
+/// Which frame of a schedule is the first that breaks something, and what: a size, or a bucket since which frame.
+pub fn broken_are_plain()
+    ensures { BrokenArePlain }
+{}
+
+/// Why rows are refused, in whichever order they stand: which of all that is wrong is told.
+pub fn refusals_are_plain()
+    ensures { RefusalsArePlain }
 {}

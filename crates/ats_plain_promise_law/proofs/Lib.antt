@@ -1,3 +1,4 @@
 pub mod TrueTimeProofs
 pub mod PromptnessProofs
 pub mod PromiseProofs
+pub mod LegalRunProofs

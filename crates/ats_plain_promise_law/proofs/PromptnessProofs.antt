@@ -1,4 +1,4 @@
-use Rattle.std.proofs.Common.{◌≡◌, ℕ, ◌+◌, List, [], ◌∷◌, refl, subst}
+use Rattle.std.proofs.Common.{◌≡◌, ℕ, ◌+◌, ◌≤◌, List, [], ◌∷◌, refl, subst, sym}
 use Rattle.ats_num.specs.declared.time.Ps.{Ps}
 use Rattle.ats_network.specs.Sender.{Sender}
 use Rattle.ats_group.specs.Judge.{OnEligible}
@@ -7,8 +7,8 @@ use Rattle.ats_group.specs.declared.verdict.Verdict.TheVariants.{Eligible, Late,
 use Rattle.ats_certificate.specs.declared.row.Row.{Row}
 use Rattle.ats_trace.specs.HopRecord.{HopRecord}
 use Rattle.ats_trace.specs.declared.journey.Ending.{Ending}
-use Rattle.ats_soundness_law.specs.Sound.{IsPrompt, IsPromptIfEligible, all_but_first, bounds_of}
-use Rattle.ats_plain_promise_law.specs.Promptness.{PromptnessIsPlain}
+use Rattle.ats_soundness_law.specs.Sound.{IsEligibleBy, IsPrompt, IsPromptIfEligible, all_but_first, bounds_of}
+use Rattle.ats_plain_promise_law.specs.Promptness.{PromptIsPlain, PromptnessIsPlain}
 
 -- When frames are contained on their way.
 
@@ -46,8 +46,33 @@ back rows sender (p ∷ q ∷ path) (first ∷ hop ∷ later) ending says =
     on_eligible hop.verdict (λ at. IsPrompt (bounds_of rows sender) (at + bounds_of rows sender q) path later ending)
     (λ e is. says p q path first hop later e refl refl is)
 
+-- a verdict is eligible by a time, with what holds of its time
+eligible_by : (limit : ℕ) (Next : ℕ → Type 0) (verdict : Verdict) → IsEligibleBy limit Next verdict
+    → (e : Ps) × (verdict ≡ Eligible e) × (e.0 ≤ limit) × Next e.0
+eligible_by limit Next (Eligible e) is = (e, refl, is.0, is.1)
+eligible_by limit Next (Late e) is = absurd is
+eligible_by limit Next Size is = absurd is
+
+by_eligible : (limit : ℕ) (Next : ℕ → Type 0) (verdict : Verdict)
+    → (e : Ps) × (verdict ≡ Eligible e) × (e.0 ≤ limit) × Next e.0 → IsEligibleBy limit Next verdict
+by_eligible limit Next verdict (e, is, by, more) =
+    subst (λ (v : Verdict). IsEligibleBy limit Next v) (sym is) (by, more)
+
+prompt : PromptIsPlain
+prompt = record {
+  arrived = λ bound limit at. ((λ is. is), (λ is. is));
+  discarded = λ bound limit. ((λ is. is), (λ is. is));
+  no_port = λ bound limit hop hops ending. ((λ is. is), (λ is. is));
+  no_record = λ bound limit p path ending. ((λ is. is), (λ is. is));
+  next = λ bound limit p path hop hops ending. (
+    (λ is. eligible_by limit (λ e. IsPrompt bound (e + bound p) path hops ending) hop.verdict is),
+    (λ is. by_eligible limit (λ e. IsPrompt bound (e + bound p) path hops ending) hop.verdict is),
+  );
+}
+
 pub promptness_is_plain : PromptnessIsPlain
 promptness_is_plain = record {
+  prompt = prompt;
   arrives = λ limit at. ((λ is. is), (λ is. is));
   discarded = λ limit. ((λ is. is), (λ is. is));
   contained = λ rows sender route way. (

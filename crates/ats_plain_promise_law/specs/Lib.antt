@@ -1,3 +1,4 @@
 pub mod TrueTimes
 pub mod Promptness
 pub mod Promises
+pub mod LegalRuns
