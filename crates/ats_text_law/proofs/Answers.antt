@@ -22,10 +22,13 @@ use Rattle.ats_requests.specs.declared.answer.Answer.TheVariants.{Admitted, With
 use Rattle.ats_requests.specs.declared.denied.Denied.{Denied}
 use Rattle.ats_requests.specs.declared.denied.Denied.TheVariants.{NameTaken, NameUnknown, Limit, Because, NoClass}
 use Rattle.ats_requests.specs.declared.request.Request.{Request}
-use Rattle.ats_admission_text.specs.Text.{answer_text, class_line, class_lines, denied_text, given_text, lines_of}
+use Rattle.ats_requests.specs.Requests.{after_all, answers}
+use Rattle.ats_network.specs.Network.{DeclaredNetwork}
+use Rattle.ats_admission_text.specs.Text.{admission_text, answer_text, class_line, class_lines, denied_text, given_text, lines_of}
 use Rattle.ats_admission_text.specs.Text.{name_asked, reason_end}
 use Rattle.ats_text_law.specs.Short.{IsShort}
-use Rattle.ats_text_law.specs.Answers.{AnswersTellAll, IsShortAnswer, IsShortDenied, IsShortReason}
+use Rattle.ats_text_law.specs.Answers.{AdmissionIsTold, AdmissionTellsAll, AnswersTellAll, AnswersTellAllBehind}
+use Rattle.ats_text_law.specs.Answers.{IsShortAnswer, IsShortDenied, IsShortReason}
 use Rattle.ats_text_law.specs.Explained.{IsNamed}
 use Rattle.ats_text_law.proofs.Words.{IsBehind, IsWord, cut, cut_numbers, decimal_word, name_word, word_append}
 
@@ -314,22 +317,67 @@ module _ (nodes : List Node) (links : List Link) (sound : AreSound nodes links) 
   cut_answers name (Refused d) (Admitted c n) b y short brief same = absurd (omega (arith, ap (code_at 0) same))
   cut_answers name (Refused d) Withdrawn b y short brief same = absurd (omega (arith, ap (code_at 0) same))
 
-  cut_all : (asked : List Request) (given others : List Answer) → length given ≡ length asked
+  -- two lists of answers and what stands behind them
+  record AreLists (given others : List Answer) (b y : List ℕ) : Type 0 where
+    answers_are : given ≡ others
+    rest : b ≡ y
+
+  cut_all : (asked : List Request) (given others : List Answer) (b y : List ℕ) → length given ≡ length asked
       → length others ≡ length asked → All (IsShortAnswer ports) given → All (IsShortAnswer ports) others
-      → lines_of topology asked given ≡ lines_of topology asked others → given ≡ others
-  cut_all [] [] [] long wide short brief same = refl
-  cut_all [] (one ∷ given) others long wide short brief same = absurd (omega (arith, long))
-  cut_all [] [] (two ∷ others) long wide short brief same = absurd (omega (arith, wide))
-  cut_all (a ∷ asked) [] others long wide short brief same = absurd (omega (arith, long))
-  cut_all (a ∷ asked) (one ∷ given) [] long wide short brief same = absurd (omega (arith, wide))
-  cut_all (a ∷ asked) (one ∷ given) (two ∷ others) long wide short brief same =
-      let first = cut_answers (name_asked a) one two (lines_of topology asked given) (lines_of topology asked others)
-      (All-head (IsShortAnswer ports) one given short) (All-head (IsShortAnswer ports) two others brief) same in
-      let more = cut_all asked given others (omega (arith, long)) (omega (arith, wide))
+      → lines_of topology asked given ++ b ≡ lines_of topology asked others ++ y → AreLists given others b y
+  cut_all [] [] [] b y long wide short brief same = record { answers_are = refl; rest = same }
+  cut_all [] (one ∷ given) others b y long wide short brief same = absurd (omega (arith, long))
+  cut_all [] [] (two ∷ others) b y long wide short brief same = absurd (omega (arith, wide))
+  cut_all (a ∷ asked) [] others b y long wide short brief same = absurd (omega (arith, long))
+  cut_all (a ∷ asked) (one ∷ given) [] b y long wide short brief same = absurd (omega (arith, wide))
+  cut_all (a ∷ asked) (one ∷ given) (two ∷ others) b y long wide short brief same =
+      let first = cut_answers (name_asked a) one two (lines_of topology asked given ++ b)
+      (lines_of topology asked others ++ y)
+      (All-head (IsShortAnswer ports) one given short) (All-head (IsShortAnswer ports) two others brief)
+      (sym (append_assoc (answer_text topology (name_asked a) one) (lines_of topology asked given) b) ∙ same
+      ∙ append_assoc (answer_text topology (name_asked a) two) (lines_of topology asked others) y) in
+      let more = cut_all asked given others b y (omega (arith, long)) (omega (arith, wide))
       (All-tail (IsShortAnswer ports) one given short) (All-tail (IsShortAnswer ports) two others brief)
       first.rest in
-      rw (first.answer_is, more) refl
+      record { answers_are = rw (first.answer_is, more.answers_are) refl; rest = more.rest }
+
+told_behind : AnswersTellAllBehind
+told_behind nodes links sound asked given others b y first second same =
+    let lists = cut_all nodes links sound asked given others b y first.one_each second.one_each first.short
+    second.short same in
+    (lists.answers_are, lists.rest)
 
 pub answers_tell_all : AnswersTellAll
 answers_tell_all nodes links sound asked given others first second same =
-    cut_all nodes links sound asked given others first.one_each second.one_each first.short second.short same
+    (told_behind nodes links sound asked given others [] [] first second (ap (λ (text : List ℕ). text ++ []) same)).0
+
+-- what stands behind the answers
+abbrev behind_answers : ℕ → List ℕ
+behind_answers count = codes "streams " ++ (decimal count ++ 10 ∷ [])
+
+regrouped : (lines : List ℕ) (count : ℕ)
+    → lines ++ codes "streams " ++ decimal count ++ codes "\n" ≡ lines ++ behind_answers count
+regrouped lines count = simp append_assoc refl
+
+text_parts : (nodes : List Node) (links : List Link) (asked : List Request) (network : DeclaredNetwork)
+    → network.topology ≡ topology_of nodes links
+    → admission_text network asked ≡ lines_of (topology_of nodes links) asked (answers network asked)
+    ++ behind_answers (length (after_all network asked).streams)
+text_parts nodes links asked network over =
+    regrouped (lines_of network.topology asked (answers network asked)) (length (after_all network asked).streams)
+    ∙ ap (λ (t : DeclaredTopology). lines_of t asked (answers network asked)
+    ++ behind_answers (length (after_all network asked).streams)) over
+
+told : AdmissionTellsAll
+told nodes links sound asked network other over beside first second short brief same =
+    let count = length (after_all network asked).streams in
+    let number = length (after_all other asked).streams in
+    let parts = told_behind nodes links sound asked (answers network asked) (answers other asked) (behind_answers count)
+    (behind_answers number) first second
+    (sym (text_parts nodes links asked network over) ∙ same ∙ text_parts nodes links asked other beside) in
+    let numbers = cut_numbers count number (10 ∷ []) (10 ∷ []) short brief refl refl
+    (append_cancel_left (codes "streams ") _ _ parts.1) in
+    (parts.0, numbers.number)
+
+pub admission_is_told : AdmissionIsTold
+admission_is_told = record { behind = told_behind; all = told }

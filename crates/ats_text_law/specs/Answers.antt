@@ -1,4 +1,4 @@
-use Rattle.std.specs.Prelude.{◌≡◌, ℕ, ◌<◌, IsTrue, List, length, All}
+use Rattle.std.specs.Prelude.{◌≡◌, ℕ, ◌<◌, IsTrue, List, ◌++◌, length, All}
 use Rattle.ats_num.specs.Name.{is_name}
 use Rattle.ats_topology.specs.Topology.{ports_of, topology_of}
 use Rattle.ats_topology.specs.declared.node.Node.{Node}
@@ -11,7 +11,9 @@ use Rattle.ats_requests.specs.declared.answer.Answer.TheVariants.{Admitted, With
 use Rattle.ats_requests.specs.declared.denied.Denied.{Denied}
 use Rattle.ats_requests.specs.declared.denied.Denied.TheVariants.{NameTaken, NameUnknown, Limit, Because, NoClass}
 use Rattle.ats_requests.specs.declared.request.Request.{Request}
-use Rattle.ats_admission_text.specs.Text.{lines_of}
+use Rattle.ats_requests.specs.Requests.{after_all, answers}
+use Rattle.ats_network.specs.Network.{DeclaredNetwork}
+use Rattle.ats_admission_text.specs.Text.{admission_text, lines_of}
 use Rattle.ats_text_law.specs.Explained.{IsNamed}
 use Rattle.ats_text_law.specs.Short.{IsShort}
 
@@ -49,3 +51,28 @@ AnswersTellAll = (nodes : List Node) (links : List Link) → AreSound nodes link
     → AreAnswersTo (length (ports_of nodes links)) asked others
     → lines_of (topology_of nodes links) asked given ≡ lines_of (topology_of nodes links) asked others
     → given ≡ others
+
+-- so it is whatever stands behind both
+abbrev pub AnswersTellAllBehind : Type 0
+AnswersTellAllBehind = (nodes : List Node) (links : List Link) → AreSound nodes links
+    → (asked : List Request) (given others : List Answer) (behind beyond : List ℕ)
+    → AreAnswersTo (length (ports_of nodes links)) asked given
+    → AreAnswersTo (length (ports_of nodes links)) asked others
+    → lines_of (topology_of nodes links) asked given ++ behind
+    ≡ lines_of (topology_of nodes links) asked others ++ beyond → (given ≡ others) × (behind ≡ beyond)
+
+-- and so the whole text that `admit` prints tells the answers, and the number of streams at the end
+abbrev pub AdmissionTellsAll : Type 0
+AdmissionTellsAll = (nodes : List Node) (links : List Link) → AreSound nodes links
+    → (asked : List Request) (network other : DeclaredNetwork)
+    → network.topology ≡ topology_of nodes links → other.topology ≡ topology_of nodes links
+    → AreAnswersTo (length (ports_of nodes links)) asked (answers network asked)
+    → AreAnswersTo (length (ports_of nodes links)) asked (answers other asked)
+    → IsShort (length (after_all network asked).streams) → IsShort (length (after_all other asked).streams)
+    → admission_text network asked ≡ admission_text other asked
+    → (answers network asked ≡ answers other asked)
+    × (length (after_all network asked).streams ≡ length (after_all other asked).streams)
+
+pub record AdmissionIsTold : Type 0 where
+  pub behind : AnswersTellAllBehind
+  pub all : AdmissionTellsAll

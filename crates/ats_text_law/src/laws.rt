@@ -1,6 +1,6 @@
 //! What is proved of the definitions themselves.
 
-ghost use Rattle.ats_text_law.specs.Answers.{AnswersTellAll};
+ghost use Rattle.ats_text_law.specs.Answers.{AdmissionIsTold, AnswersTellAll};
 ghost use Rattle.ats_text_law.specs.Explained.{ExplainTellsAll};
 ghost use Rattle.ats_text_law.specs.Laws.{AcceptedTellsAll, DeparturesTellAll, ReportTellsAll};
 
@@ -27,6 +27,12 @@ pub fn accepted_tells_all()
 /// only where the answers are: each class, sum, cause and reason.
 pub fn answers_tell_all()
     ensures { AnswersTellAll }
+{}
+
+/// A law: so it is whatever stands behind both lists; and the whole text that `admit` prints tells
+/// the answers, and how many streams there are at the end.
+pub fn admission_is_told()
+    ensures { AdmissionIsTold }
 {}
 
 /// A law: what `explain` prints of two networks over one topology, whose streams have the same names and
