@@ -24,7 +24,8 @@ use Rattle.ats_requests.specs.declared.denied.Denied.TheVariants.{NameTaken, Nam
 use Rattle.ats_requests.specs.declared.request.Request.{Request}
 use Rattle.ats_requests.specs.Requests.{after_all, answers}
 use Rattle.ats_network.specs.Network.{DeclaredNetwork}
-use Rattle.ats_admission_text.specs.Text.{admission_text, answer_text, class_line, class_lines, denied_text, given_text, lines_of}
+use Rattle.ats_admission_text.specs.Text.{admission_text, answer_text, class_line, class_lines, denied_text}
+use Rattle.ats_admission_text.specs.Text.{given_text, lines_of}
 use Rattle.ats_admission_text.specs.Text.{name_asked, reason_end}
 use Rattle.ats_text_law.specs.Short.{IsShort}
 use Rattle.ats_text_law.specs.Answers.{AdmissionIsTold, AdmissionTellsAll, AnswersTellAll, AnswersTellAllBehind}
