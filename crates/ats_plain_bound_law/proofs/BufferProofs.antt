@@ -5,7 +5,7 @@ use Rattle.ats_network.specs.Network.{DeclaredNetwork}
 use Rattle.ats_certificate.specs.declared.row.Row.{Row}
 use Rattle.ats_trace.specs.Journey.{Travel}
 use Rattle.ats_buffer.specs.Occupancy.{ArePeaks, no_row, occupancy, row_at}
-use Rattle.ats_plain_bound_law.specs.Buffers.{BuffersArePlain}
+use Rattle.ats_plain_bound_law.specs.Buffers.{BuffersAreReckoned}
 
 -- What is held at ports, and how much of it at most.
 
@@ -42,8 +42,8 @@ takes network run rows peaks are = record {
       record { most = peak.0; reached = peak.1 });
 }
 
-pub buffers_are_plain : BuffersArePlain
-buffers_are_plain = record {
+pub buffers_are_reckoned : BuffersAreReckoned
+buffers_are_reckoned = record {
   buffers = λ network rows. refl;
   peaks = λ network run rows peaks. (gives network run rows peaks, takes network run rows peaks);
 }

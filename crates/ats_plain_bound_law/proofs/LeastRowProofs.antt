@@ -1,9 +1,9 @@
 use Rattle.std.proofs.Common.{refl}
-use Rattle.ats_plain_bound_law.specs.LeastRows.{LeastRowsArePlain}
+use Rattle.ats_plain_bound_law.specs.LeastRows.{LeastRowsAreReckoned}
 
 -- What stands in the least rows of a network.
-pub least_rows_are_plain : LeastRowsArePlain
-least_rows_are_plain = record {
+pub least_rows_are_reckoned : LeastRowsAreReckoned
+least_rows_are_reckoned = record {
   port = λ network port class. refl;
   class = λ network port class. refl;
   higher = λ network port class. refl;

@@ -5,7 +5,7 @@ use Rattle.ats_certificate.specs.PortSums.{uses}
 use Rattle.ats_tally.proofs.Lists.{list_any-map}
 use Rattle.ats_bound.specs.Least.{least_row}
 use Rattle.ats_explain.specs.Parts.{stay_by}
-use Rattle.ats_plain_bound_law.specs.Parts.{HopsArePlain, PartsArePlain, PartsOfBounds, StaysOfPorts}
+use Rattle.ats_plain_bound_law.specs.Parts.{HopsAndLoads, PartsAreReckoned, PartsOfBounds, StaysOfPorts}
 
 -- How the bounds of hops are explained.
 
@@ -29,15 +29,15 @@ stays = record {
   none_is_over = refl;
 }
 
-hops : HopsArePlain
+hops : HopsAndLoads
 hops = record {
   hop = λ network s port. refl;
   has = λ network port. list_any-map (uses port) stream_sender network.streams;
   load = λ network port. refl;
 }
 
-pub parts_are_plain : PartsArePlain
-parts_are_plain = record {
+pub parts_are_reckoned : PartsAreReckoned
+parts_are_reckoned = record {
   bounds = bounds;
   stays = stays;
   hops = hops;

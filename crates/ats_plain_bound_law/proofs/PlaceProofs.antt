@@ -7,7 +7,7 @@ use Rattle.ats_network.specs.Network.{DeclaredNetwork}
 use Rattle.ats_certificate.specs.Form.{last_of}
 use Rattle.ats_certificate.specs.Used.{places_at, places_from}
 use Rattle.ats_certificate.specs.declared.row.Row.{Row}
-use Rattle.ats_plain_bound_law.specs.Places.{PlacesArePlain}
+use Rattle.ats_plain_bound_law.specs.Places.{PlacesAreReckoned}
 
 -- Which places a network has, which row is that of a place, and which is the last.
 
@@ -38,8 +38,8 @@ takes [] row = refl
 takes (one ∷ []) row = refl
 takes (one ∷ next ∷ before) row = behind one next (before ++ row ∷ []) ∙ takes (next ∷ before) row
 
-pub places_are_plain : PlacesArePlain
-places_are_plain = record {
+pub places_are_reckoned : PlacesAreReckoned
+places_are_reckoned = record {
   all = λ network. from_here network 0 network.topology.ports;
   row = λ rows port class. refl;
   last = λ rows row. (gives rows row, (λ is. ap last_of (sym is.1) ∙ takes is.0 row));

@@ -11,8 +11,8 @@ use Rattle.ats_tally.specs.declared.reason.Reason.{Reason}
 use Rattle.ats_tally.specs.declared.reason.Reason.TheVariants.{Overloaded, Residence}
 use Rattle.ats_bound.specs.Least.{least_certificate}
 use Rattle.ats_bound.specs.Reason.{load_at}
-use Rattle.ats_plain_bound_law.specs.Reasons.{FirstIsTold, LateIsPlain, LoadsArePlain, ReasonsArePlain, StaysArePlain}
-use Rattle.ats_plain_bound_law.specs.Reasons.{WhyIsPlain}
+use Rattle.ats_plain_bound_law.specs.Reasons.{FirstIsTold, LateIsReckoned, LoadsAreReckoned, ReasonsAreReckoned}
+use Rattle.ats_plain_bound_law.specs.Reasons.{StaysAreReckoned, WhyIsReckoned}
 
 -- Why no certificate holds for a network.
 
@@ -23,7 +23,7 @@ first A = record { none = λ given. refl; one = λ given x xs. refl }
 abbrev told : Reason → Bool → Option Reason
 told reason passes = cond passes (Some reason) None
 
-loads : LoadsArePlain
+loads : LoadsAreReckoned
 loads = record {
   load = λ network port class. refl;
   over = λ network port class is. ap (told (Overloaded port class (load_at network (port, class))))
@@ -35,7 +35,7 @@ loads = record {
 abbrev need : DeclaredNetwork → Row → ℕ
 need network row = need_behind network row.port row.wait
 
-stays : StaysArePlain
+stays : StaysAreReckoned
 stays = record {
   station = λ network row none. ap (overstay_by row (need network row)) none;
   longer = λ network row ns there is. ap (overstay_by row (need network row)) there
@@ -44,7 +44,7 @@ stays = record {
       ∙ ap (told (Residence row.port row.class (need network row))) (le-ltb (1000 * ns) (need network row) is);
 }
 
-lates : LateIsPlain
+lates : LateIsReckoned
 lates topology rows stream = refl
 
 -- the first row with too long a stay, and the first stream that is late
@@ -54,7 +54,7 @@ stayed network = first_some (overstay network) (least_certificate network)
 abbrev overdue : DeclaredNetwork → Option Reason
 overdue network = first_some (late network.topology (least_certificate network)) network.streams
 
-why : WhyIsPlain
+why : WhyIsReckoned
 why = record {
   overloaded = λ network reason is.
       ap (λ (o : Option Reason). option_or o (option_or (stayed network) (overdue network))) is;
@@ -66,8 +66,8 @@ why = record {
       ∙ ap (λ (o : Option Reason). option_or o (overdue network)) no_stay;
 }
 
-pub reasons_are_plain : ReasonsArePlain
-reasons_are_plain = record {
+pub reasons_are_reckoned : ReasonsAreReckoned
+reasons_are_reckoned = record {
   places = first (ℕ × ℕ);
   rows = first Row;
   streams = first DeclaredStream;

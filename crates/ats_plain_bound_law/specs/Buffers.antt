@@ -7,7 +7,7 @@ use Rattle.ats_buffer.specs.Occupancy.{ArePeaks, occupancy}
 
 -- each row has the buffer of its port and class; and of a run it has a peak: at some time so many bits are held at its
 -- port in its class, and at no time more
-pub record BuffersArePlain : Type 0 where
+pub record BuffersAreReckoned : Type 0 where
   pub buffers : (network : DeclaredNetwork) (rows : List Row) → buffers_of network rows
       ≡ map (λ (row : Row). buffer_at network rows row.port row.class) rows
   pub peaks : (network : DeclaredNetwork) (run : List Travel) (rows : List Row) (peaks : List ℕ)

@@ -10,7 +10,7 @@ use Rattle.ats_bound.specs.Least.{least_certificate, least_row}
 -- bursts less the shortest frame, at what the higher classes leave of the link, rounded up to a picosecond; its bound
 -- is this wait with the transmission of the shortest frame and the latency of the port. The least certificate has the
 -- least row of each place, and no other
-pub record LeastRowsArePlain : Type 0 where
+pub record LeastRowsAreReckoned : Type 0 where
   pub port : (network : DeclaredNetwork) (port class : ℕ) → (least_row network (port, class)).port ≡ port
   pub class : (network : DeclaredNetwork) (port class : ℕ) → (least_row network (port, class)).class ≡ class
   pub higher : (network : DeclaredNetwork) (port class : ℕ) → (least_row network (port, class)).higher

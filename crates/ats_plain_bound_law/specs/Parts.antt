@@ -39,7 +39,7 @@ pub record PartsOfBounds : Type 0 where
       (senders_of network))
 
 -- behind a port that leads to a bridge stands how long a frame may have to stay there, by the clock there, beside how
--- long it may; it is too long where it is longer, and behind a port that leads to a station never
+-- long it may; behind one that leads to a station no stay is told, and none that is not told is too long
 pub record StaysOfPorts : Type 0 where
   pub station : (network : DeclaredNetwork) (port class : ℕ) → residence_after network.topology port ≡ None
       → (parts_at network port class).stay ≡ None
@@ -50,7 +50,7 @@ pub record StaysOfPorts : Type 0 where
 
 -- a hop of a stream is told in the class that the stream has at the port. A port is told where some stream has it, with
 -- the part of each second that the rates of its streams take of it
-pub record HopsArePlain : Type 0 where
+pub record HopsAndLoads : Type 0 where
   pub hop : (network : DeclaredNetwork) (s : DeclaredStream) (port : ℕ) → parts_of_hop network s port
       ≡ parts_at network port (class_at (stream_sender s) port)
   pub has : (network : DeclaredNetwork) (port : ℕ) → has_stream network port
@@ -58,7 +58,7 @@ pub record HopsArePlain : Type 0 where
   pub load : (network : DeclaredNetwork) (port : ℕ) → port_load network port
       ≡ (port_at network.topology.ports port).ps_per_bit * rate_at network port
 
-pub record PartsArePlain : Type 0 where
+pub record PartsAreReckoned : Type 0 where
   pub bounds : PartsOfBounds
   pub stays : StaysOfPorts
-  pub hops : HopsArePlain
+  pub hops : HopsAndLoads

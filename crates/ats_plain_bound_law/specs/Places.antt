@@ -9,7 +9,7 @@ use Rattle.ats_certificate.specs.declared.row.Row.{Row}
 
 -- the places of a network go port by port, and at each port class by class: of the classes 1 to 7 those that some
 -- stream has there. Of rows, that of a place is the first with this port and class, and the last is behind all others
-pub record PlacesArePlain : Type 0 where
+pub record PlacesAreReckoned : Type 0 where
   pub all : (network : DeclaredNetwork) → places_of network
       ≡ flat_map (λ port. map (λ class. (port, class))
       (filter (λ class. is_used network port class) (1 ∷ 2 ∷ 3 ∷ 4 ∷ 5 ∷ 6 ∷ 7 ∷ [])))

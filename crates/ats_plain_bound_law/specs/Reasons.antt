@@ -22,7 +22,7 @@ pub record FirstIsTold (A : Type 0) : Type 0 where
       ≡ option_or (given x) (first_some given xs)
 
 -- a port is overloaded in a class where it and the higher ones take more than the whole of each second
-pub record LoadsArePlain : Type 0 where
+pub record LoadsAreReckoned : Type 0 where
   pub load : (network : DeclaredNetwork) (port class : ℕ) → load_at network (port, class)
       ≡ (port_sums network port class).higher + (port_sums network port class).equal
   pub over : (network : DeclaredNetwork) (port class : ℕ) → 1000000000000 < load_at network (port, class)
@@ -32,7 +32,7 @@ pub record LoadsArePlain : Type 0 where
 
 -- a row is told where a frame may have to stay behind its port longer than the bridge there may keep it; behind a port
 -- that leads to a station none is
-pub record StaysArePlain : Type 0 where
+pub record StaysAreReckoned : Type 0 where
   pub station : (network : DeclaredNetwork) (row : Row) → residence_after network.topology row.port ≡ None
       → overstay network row ≡ None
   pub longer : (network : DeclaredNetwork) (row : Row) (ns : ℕ) → residence_after network.topology row.port ≡ Some ns
@@ -43,14 +43,14 @@ pub record StaysArePlain : Type 0 where
 
 -- a stream is late for the first of its listeners for which the bounds along the route there are together over its
 -- deadline
-abbrev pub LateIsPlain : Type 0
-LateIsPlain = (topology : DeclaredTopology) (rows : List Row) (stream : DeclaredStream) → late topology rows stream
+abbrev pub LateIsReckoned : Type 0
+LateIsReckoned = (topology : DeclaredTopology) (rows : List Row) (stream : DeclaredStream) → late topology rows stream
     ≡ first_some (λ (l : Listener). if nat_lt (1000 * stream.deadline_ns) (bound_on rows stream l.route)
     then Some (Deadline stream.name l.name (bound_on rows stream l.route)) else None) (listeners_of topology stream)
 
 -- of a network the first overloaded place is told; where there is none, the first row of the least certificate with too
 -- long a stay; and where there is none either, the first stream that is late by it
-pub record WhyIsPlain : Type 0 where
+pub record WhyIsReckoned : Type 0 where
   pub overloaded : (network : DeclaredNetwork) (why : Reason)
       → first_some (overload network) (places_of network) ≡ Some why → reason_of network ≡ Some why
   pub overstays : (network : DeclaredNetwork) (why : Reason)
@@ -60,12 +60,12 @@ pub record WhyIsPlain : Type 0 where
       → first_some (overstay network) (least_certificate network) ≡ None
       → reason_of network ≡ first_some (late network.topology (least_certificate network)) network.streams
 
-pub record ReasonsArePlain : Type 0 where
+pub record ReasonsAreReckoned : Type 0 where
   pub places : FirstIsTold (ℕ × ℕ)
   pub rows : FirstIsTold Row
   pub streams : FirstIsTold DeclaredStream
   pub listeners : FirstIsTold Listener
-  pub loads : LoadsArePlain
-  pub stays : StaysArePlain
-  pub late : LateIsPlain
-  pub why : WhyIsPlain
+  pub loads : LoadsAreReckoned
+  pub stays : StaysAreReckoned
+  pub late : LateIsReckoned
+  pub why : WhyIsReckoned

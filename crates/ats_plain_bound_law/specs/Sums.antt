@@ -6,7 +6,7 @@ use Rattle.ats_certificate.specs.PortSums.{least_of, port_sums, senders_at}
 
 -- of the senders at a port, a class waits for the longest frame of a lower class, and of its own frames the shortest
 -- counts: that with the fewest bits; 0 where there is none
-pub record SumsArePlain : Type 0 where
+pub record SumsAreReckoned : Type 0 where
   pub lower : (network : DeclaredNetwork) (port class : ℕ) → (port_sums network port class).lower
       ≡ fold max 0 (map (λ (s : PortSender). bits_of s.max_octets)
       (filter (λ (s : PortSender). nat_lt s.class class) (senders_at network.topology port (senders_of network))))

@@ -6,12 +6,12 @@ use Rattle.ats_streams.specs.Stream.{DeclaredStream}
 use Rattle.ats_network.specs.Edits.{no_stream, stream_named}
 use Rattle.ats_network.proofs.Appended.{position_from-later}
 use Rattle.ats_network.proofs.SerialLemmas.{position_from-map}
-use Rattle.ats_plain_network_law.specs.Declarations.{DeclaredIsPlain, LimitsArePlain, NamedArePlain, NoOnesArePlain}
-use Rattle.ats_plain_network_law.specs.Declarations.{DeclarationsArePlain}
+use Rattle.ats_plain_network_law.specs.Declarations.{DeclaredIsKnown, LimitsAreKnown, NamedAreKnown, AbsentAreKnown}
+use Rattle.ats_plain_network_law.specs.Declarations.{DeclarationsAreKnown}
 
 -- What senders declare, when they are over the limits, and which stream a name is of.
 
-declarations : DeclaredIsPlain
+declarations : DeclaredIsKnown
 declarations = record {
   rate = λ s. refl;
   burst = λ s. refl;
@@ -23,10 +23,10 @@ declarations = record {
   greatest_there = λ c s. refl;
 }
 
-limits : LimitsArePlain
+limits : LimitsAreKnown
 limits = record { over = λ topology s. refl }
 
-no_ones : NoOnesArePlain
+no_ones : AbsentAreKnown
 no_ones = record { sender = refl; stream = refl }
 
 -- the element at a place behind the first is that of the rest
@@ -57,7 +57,7 @@ by_name streams name =
     (position_from-map (λ (s : DeclaredStream). s.name) (bytes_eq name) 0 streams)
     ∙ found_first (λ (s : DeclaredStream). bytes_eq name s.name) no_stream streams
 
-streams : NamedArePlain
+streams : NamedAreKnown
 streams = record {
   named = by_name;
   stay = λ streams. refl;
@@ -65,8 +65,8 @@ streams = record {
   without = λ network name. refl;
 }
 
-pub declarations_are_plain : DeclarationsArePlain
-declarations_are_plain = record {
+pub declarations_are_known : DeclarationsAreKnown
+declarations_are_known = record {
   declarations = declarations;
   limits = limits;
   no_ones = no_ones;

@@ -8,11 +8,11 @@ use Rattle.ats_network.specs.Network.{DeclaredNetwork, senders_of}
 use Rattle.ats_network.specs.Pushes.{has_identity, is_identity, is_name_taken}
 use Rattle.ats_network.specs.Sender.{Sender}
 use Rattle.ats_network.proofs.SerialLemmas.{position_from-map}
-use Rattle.ats_plain_network_law.specs.Entries.{EntriesArePlain, FaultsArePlain, NetworksArePlain, TakenArePlain}
+use Rattle.ats_plain_network_law.specs.Entries.{EntriesAreKnown, FaultsAreKnown, NetworksAreKnown, TakenAreKnown}
 
 -- What a network is made of, which names and identities are taken, and what is not added.
 
-networks : NetworksArePlain
+networks : NetworksAreKnown
 networks = record {
   made = λ topology most streams flows. refl;
   stream = λ network s. refl;
@@ -47,24 +47,24 @@ declared_is identity o h =
     ap (is_identity identity) h
     ∙ ap₂ (λ (a b : Bool). a && b) (eq-eqb identity.0 identity.0 refl) (eq-eqb identity.1 identity.1 refl)
 
-taken : TakenArePlain
+taken : TakenAreKnown
 taken = record {
   name = by_name;
   has = λ identity s. (declares identity s.identity, declared_is identity s.identity);
-  place = λ identity streams. refl;
   none = λ streams. refl;
   identity = λ streams identity. found_any (has_identity identity) 0 streams;
 }
 
-faults : FaultsArePlain
+faults : FaultsAreKnown
 faults = record {
+  together = λ streams. refl;
   beyond = λ network s. refl;
   stream = λ network s. refl;
   flow = λ network f. refl;
 }
 
-pub entries_are_plain : EntriesArePlain
-entries_are_plain = record {
+pub entries_are_known : EntriesAreKnown
+entries_are_known = record {
   networks = networks;
   taken = taken;
   faults = faults;

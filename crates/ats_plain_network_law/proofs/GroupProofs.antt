@@ -1,7 +1,7 @@
 use Rattle.std.proofs.Common.{◌≡◌, ◌⊎◌, ℕ, ℤ, pos, negsuc, ◌≤ℤ◌, refl, sym, ap, arith, inl, inr}
 use Rattle.std.proofs.lemmas.Int.{ints}
 use Rattle.ats_bucket.specs.Integers.{nonnegative}
-use Rattle.ats_plain_network_law.specs.Groups.{AllGroupsArePlain, BucketsArePlain, GroupsArePlain, JudgesArePlain}
+use Rattle.ats_plain_network_law.specs.Groups.{GroupsAreKnown, BucketsAreKnown, StatesAreKnown, JudgesAreKnown}
 
 -- What buckets and groups keep.
 
@@ -15,13 +15,13 @@ counted (pos m) n (inr (below, none)) = omega (arith, ints, below, none)
 counted (negsuc m) n (inl same) = omega (arith, ints, same)
 counted (negsuc m) n (inr (below, none)) = sym none
 
-buckets : BucketsArePlain
+buckets : BucketsAreKnown
 buckets = record {
   counted = λ z n. (counts z n, counted z n);
   rule = λ declared frames. ((λ is. is), (λ is. is));
 }
 
-groups : GroupsArePlain
+groups : StatesAreKnown
 groups = record {
   begins = λ declared. refl;
   accepts = λ declared state offer e. refl;
@@ -29,14 +29,13 @@ groups = record {
   size = λ declared state offer. refl;
 }
 
-judges : JudgesArePlain
+judges : JudgesAreKnown
 judges = record {
-  is = ((λ judge. judge), (λ judge. judge));
   any = λ by. (by, λ declared residence offers. refl);
 }
 
-pub groups_are_plain : AllGroupsArePlain
-groups_are_plain = record {
+pub groups_are_known : GroupsAreKnown
+groups_are_known = record {
   buckets = buckets;
   groups = groups;
   judges = judges;

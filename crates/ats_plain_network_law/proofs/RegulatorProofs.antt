@@ -2,23 +2,14 @@ use Rattle.std.proofs.Common.{ℕ, zero, suc, ◌<◌, List, [], ◌∷◌, leng
 use Rattle.ats_bucket.specs.Conforming.{Frame}
 use Rattle.ats_lrq.specs.Judge.{AreSpaced}
 use Rattle.ats_lrq.specs.Spacing.{IsSpaced}
-use Rattle.ats_plain_network_law.specs.Regulators.{FoldsArePlain, RegulatorsArePlain, StatesArePlain, TalkersArePlain}
+use Rattle.ats_plain_network_law.specs.Regulators.{LastFramesAreKnown, RegulatorsAreKnown, TalkersAreKnown}
 
--- How the other regulator judges, and what a spaced talker keeps.
+-- What the other regulator keeps of each member, and what a spaced talker keeps.
 
-states : StatesArePlain
-states = record {
+last_frames : LastFramesAreKnown
+last_frames = record {
   at_first = λ rate. refl;
   accepts = λ state offer e. refl;
-  late = λ state offer e. refl;
-  size = λ state offer. refl;
-}
-
-folds : FoldsArePlain
-folds = record {
-  all = λ declared residence offers. refl;
-  none = λ declared residence state. refl;
-  more = λ declared residence state offer offers. refl;
 }
 
 -- the frame at a place keeps its distance from the one at another
@@ -42,7 +33,7 @@ one_by_one rate (f ∷ g ∷ frames) each = (
   one_by_one rate (g ∷ frames) (λ k d within. each (suc k) d (omega arith)),
 )
 
-talkers : TalkersArePlain
+talkers : TalkersAreKnown
 talkers = record {
   rule = λ declared frames. (
     (λ is. (
@@ -58,9 +49,8 @@ talkers = record {
   );
 }
 
-pub regulators_are_plain : RegulatorsArePlain
-regulators_are_plain = record {
-  states = states;
-  folds = folds;
+pub regulators_are_known : RegulatorsAreKnown
+regulators_are_known = record {
+  last_frames = last_frames;
   talkers = talkers;
 }

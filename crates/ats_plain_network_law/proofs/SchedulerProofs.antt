@@ -9,7 +9,7 @@ use Rattle.ats_network.specs.Senders.{sender_at}
 use Rattle.ats_schedulers.specs.Schedulers.{member_behind}
 use Rattle.ats_settings.specs.Settings.{shaping_of}
 use Rattle.ats_settings.specs.declared.setting.Shaping.{Shaping}
-use Rattle.ats_plain_network_law.specs.Schedulers.{OrderIsPlain, ToldIsPlain, SchedulersArePlain}
+use Rattle.ats_plain_network_law.specs.Schedulers.{OrderIsKnown, ToldIsKnown, SchedulersAreKnown}
 
 -- What is told of schedulers, and in which order settings come.
 
@@ -18,7 +18,7 @@ abbrev by_test : DeclaredNetwork → ℕ → ℕ → Bool → Option Shaping
 by_test network s port test =
     if test then Some (shaping_of network (member_behind network.topology (sender_at network s) port)) else None
 
-schedulers : ToldIsPlain
+schedulers : ToldIsKnown
 schedulers = record {
   stream = λ network s port within. (
       let passes : nat_lt s (length network.streams) ≡ true = grind (arith, nat_tests) in
@@ -38,11 +38,11 @@ then_by Equal Equal Less = refl
 then_by Equal Equal Equal = refl
 then_by Equal Equal Greater = refl
 
-order : OrderIsPlain
+order : OrderIsKnown
 order = record { by_place = λ x y. then_by (nat_cmp x.0 y.0) (nat_cmp x.1 y.1) (nat_cmp x.2 y.2) }
 
-pub schedulers_are_plain : SchedulersArePlain
-schedulers_are_plain = record {
+pub schedulers_are_known : SchedulersAreKnown
+schedulers_are_known = record {
   schedulers = schedulers;
   order = order;
 }

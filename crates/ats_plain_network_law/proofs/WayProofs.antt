@@ -14,7 +14,7 @@ use Rattle.ats_network.specs.Rates.{in_front_on}
 use Rattle.ats_network.specs.Shortest.{first_walk, shortest_of}
 use Rattle.ats_network.proofs.FirstLemmas.{IsLeastOf, first_of-none, first_of-some}
 use Rattle.ats_network.proofs.RouteLemmas.{IsFirstWalk, first_walk-is, walk_found}
-use Rattle.ats_plain_network_law.specs.Ways.{ListenersArePlain, PlacesArePlain, WalksArePlain, WaysArePlain}
+use Rattle.ats_plain_network_law.specs.Ways.{ListenersAreKnown, PlacesAreKnown, WalksAreKnown, WaysAreKnown}
 
 -- Where ports and classes stand on a sender's way, which walks are computed, and who listens.
 
@@ -95,7 +95,7 @@ front port (route ∷ routes) = by (list_any (λ p. eqb p port) route) (front po
     by true more = refl
     by false more = more
 
-places : PlacesArePlain
+places : PlacesAreKnown
 places = record {
   class = λ s port. class_beside port s.ports s.classes;
   before = λ s port. before_each port (routes_of s.ports s.branches);
@@ -137,7 +137,7 @@ found topology a b walk least short = by (shortest_of topology a b) refl
     by (Some other) e =
         e ∙ ap Some (walk_is_one topology.ports a b other walk (computed topology a b other e).0 least)
 
-walks : WalksArePlain
+walks : WalksAreKnown
 walks = record {
   shortest = λ topology a b walk. (computed topology a b walk, (λ is. found topology a b walk is.0 is.1));
   joins = λ topology route. refl;
@@ -154,7 +154,7 @@ further topology (leg ∷ legs) [] = refl
 further topology (leg ∷ legs) (route ∷ routes) =
     ap (λ (l : List Listener). named topology (leg, route) ∷ l) (further topology legs routes)
 
-listeners : ListenersArePlain
+listeners : ListenersAreKnown
 listeners = record {
   all = λ topology s. refl;
   some = λ topology leg route legs routes.
@@ -164,8 +164,8 @@ listeners = record {
   no_route = λ topology leg legs. refl;
 }
 
-pub ways_are_plain : WaysArePlain
-ways_are_plain = record {
+pub ways_are_known : WaysAreKnown
+ways_are_known = record {
   places = places;
   walks = walks;
   listeners = listeners;

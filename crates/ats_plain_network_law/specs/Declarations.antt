@@ -10,9 +10,9 @@ use Rattle.ats_network.specs.Rates.{committed_at, declared_with, is_overrated, s
 use Rattle.ats_network.specs.Sender.{Sender, declared_of}
 use Rattle.ats_network.specs.Senders.{no_sender}
 
--- a sender declares its own rate, burst and sizes, and the scheduler behind one of its ports has these sizes with the
--- rate and burst that are right there
-pub record DeclaredIsPlain : Type 0 where
+-- a sender declares its own rate, burst and sizes; and with a rate and a burst that are given, as a scheduler behind
+-- one of its ports has them, it declares these and its own sizes
+pub record DeclaredIsKnown : Type 0 where
   pub rate : (s : Sender) → (declared_of s).rate ≡ s.rate
   pub burst : (s : Sender) → (declared_of s).burst_bits ≡ s.burst_bits
   pub least : (s : Sender) → (declared_of s).min_octets ≡ s.min_octets
@@ -24,7 +24,7 @@ pub record DeclaredIsPlain : Type 0 where
 
 -- a sender is over the limits where at one of its ports its rate there, or the one that its scheduler has behind it, is
 -- over 100 Gbit/s, or one of the bursts is over a gigabit
-pub record LimitsArePlain : Type 0 where
+pub record LimitsAreKnown : Type 0 where
   pub over : (topology : DeclaredTopology) (s : Sender) → is_overrated topology s
       ≡ list_any (λ port.
       (nat_lt 100000000000 (committed_at topology port s).rate
@@ -34,7 +34,7 @@ pub record LimitsArePlain : Type 0 where
 
 -- past the last number there is a sender without a name and without ports, whose frames have 64 octets, and a stream
 -- that declares nothing
-pub record NoOnesArePlain : Type 0 where
+pub record AbsentAreKnown : Type 0 where
   pub sender : no_sender ≡ record {
     name = [];
     ports = [];
@@ -60,7 +60,7 @@ pub record NoOnesArePlain : Type 0 where
 
 -- the stream of a name is the first that has these bytes; where one is taken out by its place, the others stay, and
 -- where there is no place, all do; and a network from which one is withdrawn by its name is otherwise as it was
-pub record NamedArePlain : Type 0 where
+pub record NamedAreKnown : Type 0 where
   pub named : (streams : List DeclaredStream) (name : List ℕ) → stream_named streams name
       ≡ find (λ (s : DeclaredStream). bytes_eq name s.name) streams
   pub stay : (streams : List DeclaredStream) → less_at None streams ≡ streams
@@ -68,8 +68,8 @@ pub record NamedArePlain : Type 0 where
   pub without : (network : DeclaredNetwork) (name : List ℕ) → without_named network name
       ≡ record network { streams = less_named network.streams name }
 
-pub record DeclarationsArePlain : Type 0 where
-  pub declarations : DeclaredIsPlain
-  pub limits : LimitsArePlain
-  pub no_ones : NoOnesArePlain
-  pub streams : NamedArePlain
+pub record DeclarationsAreKnown : Type 0 where
+  pub declarations : DeclaredIsKnown
+  pub limits : LimitsAreKnown
+  pub no_ones : AbsentAreKnown
+  pub streams : NamedAreKnown

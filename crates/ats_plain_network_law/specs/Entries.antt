@@ -1,20 +1,20 @@
 use Rattle.std.specs.Prelude.{◌≡◌, ◌↔◌, ℕ, ◌+◌, ◌||◌, IsTrue, false, nat_le, nat_lt, if◌then◌else◌, List, [], ◌∷◌}
 use Rattle.std.specs.Prelude.{◌++◌, length, sum_by, Some, None}
-use Rattle.std.specs.List.{list_any, position_from}
+use Rattle.std.specs.List.{list_any}
 use Rattle.std.specs.Str.{bytes_eq}
 use Rattle.ats_streams.specs.Flow.{DeclaredFlow}
 use Rattle.ats_streams.specs.Stream.{DeclaredStream}
 use Rattle.ats_topology.specs.Topology.{DeclaredTopology}
-use Rattle.ats_network.specs.Network.{DeclaredNetwork, network_within, senders_of}
+use Rattle.ats_network.specs.Network.{DeclaredNetwork, network_within, ports_together, senders_of}
 use Rattle.ats_network.specs.Pushes.{flow_push_fault, has_identity, is_beyond, is_identity_taken, is_name_taken}
-use Rattle.ats_network.specs.Pushes.{place_identified, stream_push_fault, with_flow, with_stream}
+use Rattle.ats_network.specs.Pushes.{stream_push_fault, with_flow, with_stream}
 use Rattle.ats_network.specs.Rates.{is_overrated}
 use Rattle.ats_network.specs.Sender.{Sender, stream_sender}
 use Rattle.ats_network.specs.declared.fault.PushFault.TheVariants.{IdentityTaken, Limit, NameTaken}
 
 -- a network has the topology, the limit, the streams and the flows that it is made of, and one stream or flow more
 -- comes behind the others of its kind and leaves all else
-pub record NetworksArePlain : Type 0 where
+pub record NetworksAreKnown : Type 0 where
   pub made : (topology : DeclaredTopology) (most : ℕ) (streams : List DeclaredStream) (flows : List DeclaredFlow)
       → network_within topology most streams flows
       ≡ record { topology = topology; most_ports = most; streams = streams; flows = flows }
@@ -24,25 +24,25 @@ pub record NetworksArePlain : Type 0 where
       ≡ record network { flows = network.flows ++ f ∷ [] }
 
 -- a name is taken where a stream or a flow has it, byte by byte; an identity where a stream declares both the address
--- and the VLAN identifier, and the one that is found by it is the first such
-pub record TakenArePlain : Type 0 where
+-- and the VLAN identifier; and where none is declared, none is taken
+pub record TakenAreKnown : Type 0 where
   pub name : (network : DeclaredNetwork) (name : List ℕ) → is_name_taken network name
       ≡ list_any (λ (s : Sender). bytes_eq name s.name) (senders_of network)
   pub has : (identity : ℕ × ℕ) (s : DeclaredStream) → IsTrue (has_identity identity s)
       ↔ (s.identity ≡ Some identity)
-  pub place : (identity : ℕ × ℕ) (streams : List DeclaredStream) → place_identified identity streams
-      ≡ position_from (has_identity identity) 0 streams
   pub none : (streams : List DeclaredStream) → is_identity_taken streams None ≡ false
   pub identity : (streams : List DeclaredStream) (identity : ℕ × ℕ)
       → is_identity_taken streams (Some identity) ≡ list_any (has_identity identity) streams
 
--- a stream is not added where its name is taken, or else its identity, or else where 4096 streams are there, or all
--- would have more than 65536 ports together, or it is over the limits of a scheduler; a flow is not where its name is
--- taken, or else where 4096 flows are there
-pub record FaultsArePlain : Type 0 where
+-- streams have together the ports of each. A stream is not added where its name is taken, or else its identity, or else
+-- where 4096 streams are there, or all would have more than 65536 ports together, or it is over the limits of a
+-- scheduler; a flow is not where its name is taken, or else where 4096 flows are there
+pub record FaultsAreKnown : Type 0 where
+  pub together : (streams : List DeclaredStream) → ports_together streams
+      ≡ sum_by (λ (x : DeclaredStream). length x.ports) streams
   pub beyond : (network : DeclaredNetwork) (s : DeclaredStream) → is_beyond network s
       ≡ ((nat_le 4096 (length network.streams)
-      || nat_lt 65536 (sum_by (λ (x : DeclaredStream). length x.ports) network.streams + length s.ports))
+      || nat_lt 65536 (ports_together network.streams + length s.ports))
       || is_overrated network.topology (stream_sender s))
   pub stream : (network : DeclaredNetwork) (s : DeclaredStream) → stream_push_fault network s
       ≡ (if is_name_taken network s.name then Some NameTaken
@@ -54,7 +54,7 @@ pub record FaultsArePlain : Type 0 where
       else if nat_le 4096 (length network.flows) then Some Limit
       else None)
 
-pub record EntriesArePlain : Type 0 where
-  pub networks : NetworksArePlain
-  pub taken : TakenArePlain
-  pub faults : FaultsArePlain
+pub record EntriesAreKnown : Type 0 where
+  pub networks : NetworksAreKnown
+  pub taken : TakenAreKnown
+  pub faults : FaultsAreKnown

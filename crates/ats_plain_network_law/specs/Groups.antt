@@ -10,16 +10,16 @@ use Rattle.ats_group.specs.Judge.{Judge, bucket_rule}
 use Rattle.ats_group.specs.declared.verdict.Verdict.{Verdict}
 use Rattle.ats_group.specs.declared.verdict.Verdict.TheVariants.{Eligible, Late, Size}
 
--- a time that would be before 0 counts as 0, and each other one as itself; and the talker of a stream keeps the token
+-- a number below 0 counts as 0, and each other one as itself; and the talker of a stream keeps the token
 -- bucket of the rate and the burst that it declares
-pub record BucketsArePlain : Type 0 where
+pub record BucketsAreKnown : Type 0 where
   pub counted : (z : ℤ) (n : ℕ) → (nonnegative z ≡ n) ↔ ((z ≡ pos n) ⊎ ((z ≤ℤ pos 0) × (n ≡ 0)))
   pub rule : (declared : Declared) (frames : List Frame) → bucket_rule declared frames
       ↔ Conforms declared.rate declared.burst_bits frames
 
 -- a group begins at time 0 with each member's bucket full; an accepted frame moves the group's time to its own
 -- eligibility time and takes its bits from its member's bucket alone, and a discarded one changes nothing
-pub record GroupsArePlain : Type 0 where
+pub record StatesAreKnown : Type 0 where
   pub begins : (declared : ℕ → Declared) → first declared ≡ record {
     time = 0;
     empty = λ member. neg_ℤ (pos (1000000000000 * (declared member).burst_bits));
@@ -36,14 +36,13 @@ pub record GroupsArePlain : Type 0 where
       → after declared state offer (Late e) ≡ state
   pub size : (declared : ℕ → Declared) (state : State) (offer : Offer) → after declared state offer Size ≡ state
 
--- a judge makes verdicts of what members declare, of a residence and of frames, and whatever makes them so is one
-pub record JudgesArePlain : Type 0 where
-  pub is : Judge ↔ ((ℕ → Declared) → ℕ → List Offer → List Verdict)
+-- whatever makes verdicts of what members declare, of a residence and of frames is a judge
+pub record JudgesAreKnown : Type 0 where
   pub any : (by : (ℕ → Declared) → ℕ → List Offer → List Verdict) → (judge : Judge)
       × ((declared : ℕ → Declared) (residence : ℕ) (offers : List Offer)
       → judge declared residence offers ≡ by declared residence offers)
 
-pub record AllGroupsArePlain : Type 0 where
-  pub buckets : BucketsArePlain
-  pub groups : GroupsArePlain
-  pub judges : JudgesArePlain
+pub record GroupsAreKnown : Type 0 where
+  pub buckets : BucketsAreKnown
+  pub groups : StatesAreKnown
+  pub judges : JudgesAreKnown

@@ -13,7 +13,7 @@ use Rattle.ats_settings.specs.Settings.{place_cmp, scheduler_behind}
 -- of a stream's scheduler behind a port are told the rate and burst that it has there, and the residence of its group:
 -- groups are numbered eight to a port, one for each class, and each has that of the bridge to which its port leads; of
 -- a flow none is told
-pub record ToldIsPlain : Type 0 where
+pub record ToldIsKnown : Type 0 where
   pub stream : (network : DeclaredNetwork) (s port : ℕ) → s < length network.streams
       → scheduler_behind network s port ≡ Some (record {
         rate_bps = (scheduled_at network.topology port (sender_at network s)).rate;
@@ -27,10 +27,10 @@ pub record ToldIsPlain : Type 0 where
       → scheduler_behind network s port ≡ None
 
 -- settings come by the numbers of bridge, port and class, as lists of three numbers do
-pub record OrderIsPlain : Type 0 where
+pub record OrderIsKnown : Type 0 where
   pub by_place : (x y : ℕ × ℕ × ℕ) → place_cmp x y
       ≡ slice_cmp nat_cmp (x.0 ∷ x.1 ∷ x.2 ∷ []) (y.0 ∷ y.1 ∷ y.2 ∷ [])
 
-pub record SchedulersArePlain : Type 0 where
-  pub schedulers : ToldIsPlain
-  pub order : OrderIsPlain
+pub record SchedulersAreKnown : Type 0 where
+  pub schedulers : ToldIsKnown
+  pub order : OrderIsKnown

@@ -17,7 +17,7 @@ use Rattle.ats_network.specs.Shortest.{shortest_of}
 -- a sender has at a port the class that stands where the port first stands among its ports, and 0 at other ports; the
 -- port before one is the first that has it for its next on one of the sender's routes, and a frame comes to a port over
 -- those in front of it on the first route that has it
-pub record PlacesArePlain : Type 0 where
+pub record PlacesAreKnown : Type 0 where
   pub class : (s : Sender) (port : ℕ) → class_at s port
       ≡ unwrap_or (option_map (λ (x : ℕ × ℕ). x.1) (find (λ (x : ℕ × ℕ). x.0 == port) (zip s.ports s.classes))) 0
   pub before : (s : Sender) (port : ℕ) → port_before s port
@@ -29,7 +29,7 @@ pub record PlacesArePlain : Type 0 where
 
 -- the way that is computed between two nodes is the least walk, where one has fewer ports than there are nodes; and a
 -- route joins stations where its first port leaves one and its last leads to one
-pub record WalksArePlain : Type 0 where
+pub record WalksAreKnown : Type 0 where
   pub shortest : (topology : DeclaredTopology) (a b : ℕ) (walk : List ℕ)
       → (shortest_of topology a b ≡ Some walk)
       ↔ (IsLeastWalk topology.ports a b walk × (length walk < length topology.nodes))
@@ -40,7 +40,7 @@ pub record WalksArePlain : Type 0 where
 
 -- a stream has a listener for each of its legs, with the route that ends with the leg; the first goes by no name, and
 -- each further one by that of the node where its route ends
-pub record ListenersArePlain : Type 0 where
+pub record ListenersAreKnown : Type 0 where
   pub all : (topology : DeclaredTopology) (s : DeclaredStream) → listeners_of topology s
       ≡ listeners_by topology (legs_of s.ports s.branches) (routes_of s.ports s.branches)
   pub some : (topology : DeclaredTopology) (leg route : List ℕ) (legs routes : List (List ℕ))
@@ -52,7 +52,7 @@ pub record ListenersArePlain : Type 0 where
   pub no_route : (topology : DeclaredTopology) (leg : List ℕ) (legs : List (List ℕ))
       → listeners_by topology (leg ∷ legs) [] ≡ []
 
-pub record WaysArePlain : Type 0 where
-  pub places : PlacesArePlain
-  pub walks : WalksArePlain
-  pub listeners : ListenersArePlain
+pub record WaysAreKnown : Type 0 where
+  pub places : PlacesAreKnown
+  pub walks : WalksAreKnown
+  pub listeners : ListenersAreKnown

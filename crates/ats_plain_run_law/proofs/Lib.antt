@@ -4,7 +4,5 @@ pub mod ReleaseProofs
 pub mod ClockProofs
 pub mod TalkerProofs
 pub mod MeasureProofs
-pub mod MakingProofs
 pub mod WitnessProofs
-pub mod ByteProofs
-pub mod StepProofs
+pub mod HeaderProofs

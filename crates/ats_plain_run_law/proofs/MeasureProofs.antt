@@ -8,7 +8,7 @@ use Rattle.ats_network.specs.Sender.{Sender, declared_of}
 use Rattle.ats_fit.specs.Over.{are_sizes_over, is_burst_over, is_over}
 use Rattle.ats_fit.specs.declared.measured.Measured.{Measured}
 use Rattle.ats_fit.specs.declared.measured.Sizes.{Sizes}
-use Rattle.ats_plain_run_law.specs.Measures.{IsWithin, MeasuresArePlain}
+use Rattle.ats_plain_run_law.specs.Measures.{IsWithin, MeasuresAreTraced}
 
 -- Of how many senders more is measured than they declare.
 
@@ -107,8 +107,8 @@ module _ (s : Sender) (m : Measured) where
       or_right (is_burst_over s.burst_bits m.burst_bits) (are_sizes_over (declared_of s) m.sizes)
       (octets_due s m.sizes octets)
 
-pub measures_are_plain : MeasuresArePlain
-measures_are_plain = record {
+pub measures_are_traced : MeasuresAreTraced
+measures_are_traced = record {
   over = λ s m. (over_told s m, over_due s m);
   count = λ network measured. refl;
 }

@@ -10,7 +10,7 @@ use Rattle.ats_network.specs.Senders.{sender_at}
 use Rattle.ats_trace.specs.Talker.{IsDeclaredSize, frames_of, start_of, talker_of}
 use Rattle.ats_trace.specs.declared.journey.Release.{Release}
 use Rattle.ats_conform.specs.Releases.{AllKeepBuckets}
-use Rattle.ats_plain_run_law.specs.Talkers.{BeginningsArePlain, KeepingIsPlain, TalkersArePlain}
+use Rattle.ats_plain_run_law.specs.Talkers.{BeginningsAreTraced, KeepingIsTraced, TalkersAreTraced}
 
 -- Where senders begin, and when all nodes keep their buckets.
 
@@ -37,7 +37,7 @@ sized_due network r so =
     let most : ℕ = (sender_at network r.sender).max_octets in
     and_from (nat_le least r.octets) (nat_le r.octets most) (le-leb least r.octets so.0) (le-leb r.octets most so.1)
 
-beginnings : BeginningsArePlain
+beginnings : BeginningsAreTraced
 beginnings = record {
   talker = λ network i. start_is network.topology.ports (sender_at network i).ports;
   size = λ network r. (sized_told network r, sized_due network r);
@@ -67,14 +67,14 @@ kept_due network releases kept = λ node. record {
       (kept.1 (get_or releases k d) (Contains-get_or releases k d within) there);
 }
 
-keeping : KeepingIsPlain
+keeping : KeepingIsTraced
 keeping = record {
   all = λ network releases. (kept_told network releases, kept_due network releases);
   release = λ releases n. refl;
 }
 
-pub talkers_are_plain : TalkersArePlain
-talkers_are_plain = record {
+pub talkers_are_traced : TalkersAreTraced
+talkers_are_traced = record {
   beginnings = beginnings;
   keeping = keeping;
 }

@@ -15,12 +15,12 @@ use Rattle.ats_trace.specs.Projections.{hops_along, hops_from, hops_over, transm
 use Rattle.ats_trace.specs.declared.journey.Ending.{Ending}
 use Rattle.ats_trace.specs.declared.journey.Ending.TheVariants.{Discard, Sink}
 use Rattle.ats_trace.specs.declared.journey.Release.{Release}
-use Rattle.ats_plain_run_law.specs.Tellings.{LegsAreTold, RunsAreTold, TellingsArePlain, TransmissionsArePlain}
+use Rattle.ats_plain_run_law.specs.Tellings.{LegsAreTold, RunsAreTold, TellingsAreTraced, TransmissionsAreTraced}
 use Rattle.ats_plain_run_law.specs.Tellings.{arrivals_behind, crossing_told, handed_told, hop_told}
 
 -- What records tell, place by place along each leg.
 
-transmissions : TransmissionsArePlain
+transmissions : TransmissionsAreTraced
 transmissions = record {
   sent = λ frame release class came eligible start end. refl;
   not_sent = λ frame release class came eligible. refl;
@@ -185,13 +185,10 @@ runs = record {
   handed = λ network frame j run. ap (λ (first : List Handed). first ++ handed_from network (frame + 1) run)
       (legs_handed frame j.release (sender_at network j.release.sender) (legs_at network j.release.sender)
       (legs_in j));
-  sent_by = λ network run port. refl;
-  crossed_by = λ network run port. refl;
-  handed_by = λ network run port class. refl;
 }
 
-pub tellings_are_plain : TellingsArePlain
-tellings_are_plain = record {
+pub tellings_are_traced : TellingsAreTraced
+tellings_are_traced = record {
   transmissions = transmissions;
   legs = legs;
   runs = runs;

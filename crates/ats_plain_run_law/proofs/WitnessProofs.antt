@@ -3,14 +3,14 @@ use Rattle.std.specs.Prelude.{if◌then◌else◌, slice_index}
 use Rattle.std.proofs.lemmas.Bool.{eq-eqb, ne_eqb}
 use Rattle.std.proofs.lemmas.List.{get_or_default}
 use Rattle.ats_witness.specs.Found.{IsFirstGreatest}
-use Rattle.ats_plain_run_law.specs.Witnesses.{FoundWordsArePlain, OrdersArePlain, WitnessesArePlain}
+use Rattle.ats_plain_run_law.specs.Witnesses.{FoundWordsAreTraced, OrdersAreTraced, WitnessesAreTraced}
 
 -- The words of what is found of a stream.
 
 abbrev keyed : ℕ → Bool → ℕ
 keyed frame is_last = if is_last then 4294967296 + frame else frame
 
-orders : OrdersArePlain
+orders : OrdersAreTraced
 orders = record {
   own = λ last sender frame same. ap (keyed frame) (eq-eqb sender last same);
   other = λ last sender frame other. ap (keyed frame) (ne_eqb sender last other);
@@ -34,7 +34,7 @@ module _ (numbers : List ℕ) (place : ℕ) where
     λ k d before. omega (arith, is.2 k before, there k d (omega (arith, before, is.0)), there place d is.0),
   )
 
-found : FoundWordsArePlain
+found : FoundWordsAreTraced
 found = record {
   first = λ numbers place. (
     (λ is. (is.0, (λ k within. is.1 k 0 within), (λ k before. is.2 k 0 before))),
@@ -44,8 +44,8 @@ found = record {
   bound = λ rows stream listener. refl;
 }
 
-pub witnesses_are_plain : WitnessesArePlain
-witnesses_are_plain = record {
+pub witnesses_are_traced : WitnessesAreTraced
+witnesses_are_traced = record {
   orders = orders;
   found = found;
 }

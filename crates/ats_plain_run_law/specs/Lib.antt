@@ -4,7 +4,5 @@ pub mod Releases
 pub mod Clocks
 pub mod Talkers
 pub mod Measures
-pub mod Makings
 pub mod Witnesses
-pub mod Bytes
-pub mod Steps
+pub mod Header

@@ -11,7 +11,7 @@ IsWithin s octets = (s.min_octets ≤ octets) × (octets ≤ s.max_octets)
 
 -- counted are the senders of which a burst above the declared one is measured, or of which the least or the greatest
 -- octets are not within those declared; the measures stand in the senders' order
-pub record MeasuresArePlain : Type 0 where
+pub record MeasuresAreTraced : Type 0 where
   pub over : (s : Sender) (m : Measured) → IsTrue (is_over (s, m))
       ↔ (((burst : ℕ) × (m.burst_bits ≡ Some burst) × (s.burst_bits < burst))
       ⊎ ((sizes : Sizes) × (m.sizes ≡ Some sizes) × ((¬ IsWithin s sizes.least) ⊎ (¬ IsWithin s sizes.greatest))))

@@ -11,7 +11,7 @@ use Rattle.ats_trace.specs.declared.journey.Release.{Release}
 
 -- the releases of a run are those of its frames, in their order, and it has releases where it has these and no others;
 -- a number without a frame stands for one that was discarded without a record
-pub record FramesOfRunsArePlain : Type 0 where
+pub record FramesOfRunsAreTraced : Type 0 where
   pub releases : (run : List Travel) → releases_of run ≡ map (λ (j : Travel). j.release) run
   pub has : (releases : List Release) (run : List Travel) → HasReleases releases run
       ↔ (map (λ (j : Travel). j.release) run ≡ releases)
@@ -24,17 +24,17 @@ pub record FramesOfRunsArePlain : Type 0 where
       })
 
 -- each release has the ports of its sender, those of its branches too, and they are counted together
-pub record PortsOfFramesArePlain : Type 0 where
+pub record PortsOfFramesAreTraced : Type 0 where
   pub none : (network : DeclaredNetwork) → ports_of_frames network [] ≡ 0
   pub more : (network : DeclaredNetwork) (r : Release) (releases : List Release)
       → ports_of_frames network (r ∷ releases)
       ≡ length (sender_at network r.sender).ports + ports_of_frames network releases
 
--- a run with ideal clocks is one whose groups judge as those of Asynchronous Traffic Shaping do
-abbrev pub IdealIsPlain : Type 0
-IdealIsPlain = (network : DeclaredNetwork) (run : List Travel) → IsIdeal network run ↔ IsLegalBy ats_judge network run
+-- a run by true time is ideal where it is legal with groups that judge as those of Asynchronous Traffic Shaping do
+abbrev pub IdealIsTraced : Type 0
+IdealIsTraced = (network : DeclaredNetwork) (run : List Travel) → IsIdeal network run ↔ IsLegalBy ats_judge network run
 
-pub record ReleasesArePlain : Type 0 where
-  pub frames : FramesOfRunsArePlain
-  pub ports : PortsOfFramesArePlain
-  pub ideal : IdealIsPlain
+pub record ReleasesAreTraced : Type 0 where
+  pub frames : FramesOfRunsAreTraced
+  pub ports : PortsOfFramesAreTraced
+  pub ideal : IdealIsTraced

@@ -7,9 +7,9 @@ use Rattle.ats_trace.specs.Talker.{IsDeclaredSize, frames_of, talker_of}
 use Rattle.ats_trace.specs.declared.journey.Release.{Release}
 use Rattle.ats_conform.specs.Releases.{AllKeepBuckets, release_at}
 
--- a sender begins at the node that its first port leaves, a station or a bridge; and the sizes that it declares, both
--- ends included, are its own
-pub record BeginningsArePlain : Type 0 where
+-- a sender begins at the node that its first port leaves, and one without ports at node 0; and a release has a declared
+-- size where it is within those of its sender, both ends included
+pub record BeginningsAreTraced : Type 0 where
   pub talker : (network : DeclaredNetwork) (i : ℕ) → talker_of network i
       ≡ slice_index_or (map (λ p. (port_at network.topology.ports p).from) (sender_at network i).ports) 0 0
   pub size : (network : DeclaredNetwork) (r : Release) → IsDeclaredSize network r
@@ -17,8 +17,9 @@ pub record BeginningsArePlain : Type 0 where
       × (r.octets ≤ (sender_at network r.sender).max_octets))
 
 -- all nodes keep their buckets where, wherever they begin, the frames of each stream conform to its rate and burst, and
--- each release of a stream or flow has a size that this declares; a release of no sender is not asked
-pub record KeepingIsPlain : Type 0 where
+-- each release of a stream or flow has a size that this declares; a release of no sender is not asked. A number without
+-- a release stands for one at time 0, of sender 0 and without octets
+pub record KeepingIsTraced : Type 0 where
   pub all : (network : DeclaredNetwork) (releases : List Release) → AllKeepBuckets network releases
       ↔ (((i : ℕ) → i < length network.streams
       → Conforms (sender_at network i).rate (sender_at network i).burst_bits (frames_of i releases))
@@ -28,6 +29,6 @@ pub record KeepingIsPlain : Type 0 where
   pub release : (releases : List Release) (n : ℕ) → release_at releases n
       ≡ slice_index_or releases n (record { at = record { 0 = 0 }; sender = 0; octets = 0 })
 
-pub record TalkersArePlain : Type 0 where
-  pub beginnings : BeginningsArePlain
-  pub keeping : KeepingIsPlain
+pub record TalkersAreTraced : Type 0 where
+  pub beginnings : BeginningsAreTraced
+  pub keeping : KeepingIsTraced

@@ -1,4 +1,4 @@
-use Rattle.std.specs.Prelude.{◌≡◌, ℕ, ◌+◌, ◌*◌, ◌&&◌, ◌==◌, List, [], ◌∷◌, ◌++◌, map, filter, drop, Option, Some, None}
+use Rattle.std.specs.Prelude.{◌≡◌, ℕ, ◌+◌, ◌*◌, List, [], ◌∷◌, ◌++◌, map, drop, Option, Some, None}
 use Rattle.std.specs.List.{filter_map, flat_map, zip}
 use Rattle.std.specs.Option.{option_map}
 use Rattle.ats_num.specs.declared.time.Ps.{Ps}
@@ -11,16 +11,15 @@ use Rattle.ats_group.specs.declared.verdict.Verdict.TheVariants.{Eligible, Late,
 use Rattle.ats_port_rule.specs.Transmission.{Transmission}
 use Rattle.ats_trace.specs.HopRecord.{HopRecord}
 use Rattle.ats_trace.specs.Journey.{Leg, Travel, legs_in}
-use Rattle.ats_trace.specs.Projections.{Crossing, Handed, Hop, crossings_along, crossings_by, crossings_from}
-use Rattle.ats_trace.specs.Projections.{handed_along, handed_by, handed_from, hops_along, hops_from, sent_by}
-use Rattle.ats_trace.specs.Projections.{transmission_of}
+use Rattle.ats_trace.specs.Projections.{Crossing, Handed, Hop, crossings_along, crossings_from, handed_along}
+use Rattle.ats_trace.specs.Projections.{handed_from, hops_along, hops_from, transmission_of}
 use Rattle.ats_trace.specs.declared.journey.Ending.{Ending}
 use Rattle.ats_trace.specs.declared.journey.Ending.TheVariants.{Discard, Sink}
 use Rattle.ats_trace.specs.declared.journey.Release.{Release}
 
 -- the record of an eligible frame that was sent tells of a transmission, with 8 bits for each octet and for 20 more; no
 -- other record does
-pub record TransmissionsArePlain : Type 0 where
+pub record TransmissionsAreTraced : Type 0 where
   pub sent : (frame : ℕ) (release : Release) (class : ℕ) (came eligible start end : Ps)
       → transmission_of frame release class
       (record { arrival = came; verdict = Eligible eligible; sent = Some (start, end) })
@@ -46,7 +45,8 @@ abbrev pub heard : Ending → List ℕ
 heard (Sink at) = at.0 ∷ []
 heard Discard = []
 
--- behind each port with a record a frame arrives when the next record tells, or, behind the last of them, its listener
+-- behind each port with a record a frame arrives when the next record tells, or, behind the last, when it comes to its
+-- listener, if it does
 abbrev pub arrivals_behind : List HopRecord → Ending → List ℕ
 arrivals_behind hops ending = map (λ (hop : HopRecord). hop.arrival.0) (drop 1 hops) ++ heard ending
 
@@ -88,8 +88,7 @@ abbrev pub told_legs : DeclaredNetwork → Travel → List (List ℕ × Leg)
 told_legs network j =
     zip (legs_of (sender_at network j.release.sender).ports (sender_at network j.release.sender).branches) (legs_in j)
 
--- a run is told frame by frame, from frame 0 on, and each frame leg by leg; of all that a port has what is its own, and
--- a class of what the port handed on has what was sent in that class
+-- a run is told frame by frame, each with the number behind the one before it, and each frame leg by leg
 pub record RunsAreTold : Type 0 where
   pub no_hop : (network : DeclaredNetwork) (frame : ℕ) → hops_from network frame [] ≡ []
   pub hops : (network : DeclaredNetwork) (frame : ℕ) (j : Travel) (run : List Travel)
@@ -110,16 +109,8 @@ pub record RunsAreTold : Type 0 where
       ≡ flat_map (λ (leg : List ℕ × Leg).
       handed_along frame j.release (sender_at network j.release.sender) leg.0 leg.1.hops) (told_legs network j)
       ++ handed_from network (frame + 1) run
-  pub sent_by : (network : DeclaredNetwork) (run : List Travel) (port : ℕ) → sent_by network run port
-      ≡ map (λ (h : Hop). h.sent) (filter (λ (h : Hop). h.port == port) (hops_from network 0 run))
-  pub crossed_by : (network : DeclaredNetwork) (run : List Travel) (port : ℕ) → crossings_by network run port
-      ≡ filter (λ (c : Crossing). c.port == port) (crossings_from network 0 run)
-  pub handed_by : (network : DeclaredNetwork) (run : List Travel) (port class : ℕ)
-      → handed_by network run port class
-      ≡ filter (λ (h : Handed). h.crossing.port == port && h.crossing.sent.class == class)
-      (handed_from network 0 run)
 
-pub record TellingsArePlain : Type 0 where
-  pub transmissions : TransmissionsArePlain
+pub record TellingsAreTraced : Type 0 where
+  pub transmissions : TransmissionsAreTraced
   pub legs : LegsAreTold
   pub runs : RunsAreTold

@@ -1,4 +1,4 @@
-//! Words of runs, releases, measures and captures, written out in the words below them.
+//! Words of runs, releases, measures, witnesses and captures, written out in the words below them.
 #![tactic(auto)]
 
 pub mod laws;

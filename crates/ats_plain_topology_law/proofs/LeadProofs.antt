@@ -4,7 +4,7 @@ use Rattle.std.specs.Prelude.{slice_index}
 use Rattle.ats_streams.specs.Branches.{Ascend, BeginEarlier, BeginsEarlier, no_branch}
 use Rattle.ats_streams.specs.declared.branch.Branch.{Branch}
 use Rattle.ats_streams.proofs.BranchLemmas.{begins_at}
-use Rattle.ats_plain_topology_law.specs.Leads.{BeginningsArePlain, JoinsArePlain, LeadsArePlain, TrunksArePlain}
+use Rattle.ats_plain_topology_law.specs.Leads.{BeginningsAreGiven, JoinsAreGiven, LeadsAreGiven, TrunksAreGiven}
 
 -- At which places branches begin, and which ports the legs have.
 
@@ -37,27 +37,26 @@ begin legs own (b ∷ branches) each = (
       (omega arith) (each (suc n) (omega arith))),
 )
 
-beginnings : BeginningsArePlain
+beginnings : BeginningsAreGiven
 beginnings = record {
   ascend = λ at end branches. (behind at end branches, ascend at end branches);
   begin = λ legs own branches. (λ is n within. begins_at legs own branches n is within, begin legs own branches);
   past = refl;
 }
 
-trunks : TrunksArePlain
+trunks : TrunksAreGiven
 trunks = record {
   alone = λ ports. refl;
   trunk = λ ports b branches. ap (λ (n : ℕ). take n ports) (omega arith);
   branches = λ ports branches. refl;
 }
 
-joins : JoinsArePlain
+joins : JoinsAreGiven
 joins = record {
   leads = λ legs branches. refl;
-  both = λ lead leg leads legs. refl;
   no_leg = λ lead leads. refl;
   no_lead = λ legs. refl;
 }
 
-pub leads_are_plain : LeadsArePlain
-leads_are_plain = record { beginnings = beginnings; trunks = trunks; joins = joins }
+pub leads_are_given : LeadsAreGiven
+leads_are_given = record { beginnings = beginnings; trunks = trunks; joins = joins }

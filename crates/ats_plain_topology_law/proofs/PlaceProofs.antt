@@ -10,7 +10,7 @@ use Rattle.ats_facts.proofs.Bytes.{bytes_eq-same, bytes_eq-true}
 use Rattle.ats_topology.specs.Port.{goes, leaves, leaving_from, no_port, port_at}
 use Rattle.ats_topology.specs.declared.port.Port.{Port}
 use Rattle.ats_topology.proofs.PositionLemmas.{IsFound, found}
-use Rattle.ats_plain_topology_law.specs.Places.{NamesAreFirst, PlacesArePlain, PortsAreFirst}
+use Rattle.ats_plain_topology_law.specs.Places.{NamesAreFirst, PlacesAreGiven, PortsAreFirst}
 
 -- At which places names and ports are found.
 
@@ -129,5 +129,5 @@ ports = record {
   own = λ node ports. own_behind node ports [] ports refl;
 }
 
-pub places_are_plain : PlacesArePlain
-places_are_plain = record { names = names; ports = ports }
+pub places_are_given : PlacesAreGiven
+places_are_given = record { names = names; ports = ports }

@@ -1,7 +1,7 @@
 use Rattle.std.proofs.Common.{◌≡◌, ℕ, Option, Some, None, refl}
 use Rattle.std.specs.Prelude.{ok_or}
 use Rattle.ats_num.specs.Failure.{or_fault}
-use Rattle.ats_plain_topology_law.specs.Results.{ResultsArePlain}
+use Rattle.ats_plain_topology_law.specs.Results.{ResultsAreGiven}
 
 -- What comes of values, tests and faults.
 
@@ -9,8 +9,8 @@ found : (fault : ℕ) (value : Option ℕ) → or_fault fault value ≡ ok_or va
 found fault None = refl
 found fault (Some x) = refl
 
-pub results_are_plain : ResultsArePlain
-results_are_plain = record {
+pub results_are_given : ResultsAreGiven
+results_are_given = record {
   found = found;
   passes = λ fault x. refl;
   fails = λ fault x. refl;

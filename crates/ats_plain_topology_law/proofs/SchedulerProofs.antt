@@ -1,9 +1,9 @@
 use Rattle.std.proofs.Common.{refl}
-use Rattle.ats_plain_topology_law.specs.Schedulers.{IdealIsPlain, RatesAreRounded, SchedulersArePlain}
+use Rattle.ats_plain_topology_law.specs.Schedulers.{IdealIsGiven, RatesAreRounded, SchedulersAreGiven}
 
 -- What the ideal clock is, and what schedulers have by any clock.
 
-ideal : IdealIsPlain
+ideal : IdealIsGiven
 ideal = record { deviation = refl; step = refl }
 
 rates : RatesAreRounded
@@ -16,5 +16,5 @@ rates = record {
   burst_of = λ clock scheduler. refl;
 }
 
-pub schedulers_are_plain : SchedulersArePlain
-schedulers_are_plain = record { ideal = ideal; rates = rates }
+pub schedulers_are_given : SchedulersAreGiven
+schedulers_are_given = record { ideal = ideal; rates = rates }

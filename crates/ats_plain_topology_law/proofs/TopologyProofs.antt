@@ -4,7 +4,7 @@ use Rattle.std.specs.List.{list_all, list_any}
 use Rattle.std.specs.Map.{lookup}
 use Rattle.std.proofs.lemmas.Bool.{and_parts, eqb-true}
 use Rattle.ats_topology.specs.Rates.{link_rates}
-use Rattle.ats_plain_topology_law.specs.Topologies.{EndsArePlain, LinkRatesArePlain, PartsArePlain, TopologiesArePlain}
+use Rattle.ats_plain_topology_law.specs.Topologies.{EndsAreGiven, LinksAreGiven, PartsAreGiven, TopologiesAreGiven}
 
 -- Rates of links, and what topologies are made of.
 
@@ -30,20 +30,22 @@ found_quotient (row ∷ rows) mbps all =
         ap Some (eqb-true row.1 (1000000 / row.0) one ∙ ap (λ (n : ℕ). 1000000 / n) (eqb-true row.0 mbps e))
     by false e one later = later
 
-rates : LinkRatesArePlain
+links : LinksAreGiven
 unfolding is_quotient
-rates = record { rates = λ mbps. found_quotient link_rates mbps refl }
+links = record {
+  rates = λ mbps. found_quotient link_rates mbps refl;
+  ends = λ name link. refl;
+}
 
-parts : PartsArePlain
+parts : PartsAreGiven
 parts = record {
-  names = λ nodes. refl;
   nodes = λ nodes links. refl;
   links = λ nodes links. refl;
   ports = λ nodes links. refl;
 }
 
-ends : EndsArePlain
+ends : EndsAreGiven
 ends = record { node = refl; link = refl; port = refl }
 
-pub topologies_are_plain : TopologiesArePlain
-topologies_are_plain = record { rates = rates; parts = parts; ends = ends }
+pub topologies_are_given : TopologiesAreGiven
+topologies_are_given = record { links = links; parts = parts; ends = ends }

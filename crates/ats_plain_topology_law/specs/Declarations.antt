@@ -6,7 +6,7 @@ use Rattle.ats_streams.specs.declared.branch.Branch.{Branch}
 
 -- what is declared of a stream or a flow is each number as it is given, in this order; a stream with one listener has
 -- no branch
-pub record GivenIsDeclared : Type 0 where
+pub record NumbersAreGiven : Type 0 where
   pub traffic : (rate burst_bits min_octets max_octets : ℕ) → declared_as rate burst_bits min_octets max_octets
       ≡ record { rate = rate; burst_bits = burst_bits; min_octets = min_octets; max_octets = max_octets }
   pub flow : (name path : List ℕ) (max_octets : ℕ) → declared_flow name path max_octets
@@ -33,7 +33,7 @@ pub record GivenIsDeclared : Type 0 where
 
 -- with another class a stream has that one at each of its ports, and with another burst that burst; all else that it
 -- declares is as it was
-pub record ChangesArePlain : Type 0 where
+pub record ChangesAreGiven : Type 0 where
   pub class : (s : DeclaredStream) (class : ℕ) → with_class s class
       ≡ branching_stream s.name s.ports s.branches (replicate (length s.ports) class) s.rate s.burst_bits s.min_octets
       s.max_octets s.deadline_ns s.identity
@@ -41,6 +41,6 @@ pub record ChangesArePlain : Type 0 where
       ≡ branching_stream s.name s.ports s.branches s.classes s.rate burst_bits s.min_octets s.max_octets s.deadline_ns
       s.identity
 
-pub record DeclarationsArePlain : Type 0 where
-  pub given : GivenIsDeclared
-  pub changes : ChangesArePlain
+pub record DeclarationsAreGiven : Type 0 where
+  pub given : NumbersAreGiven
+  pub changes : ChangesAreGiven

@@ -19,6 +19,6 @@ pub record PortsAreFirst : Type 0 where
   pub own : (node : ℕ) (ports : List Port) → leaving node ports
       ≡ filter (λ p. (port_at ports p).from == node) (range_with_len 0 (length ports))
 
-pub record PlacesArePlain : Type 0 where
+pub record PlacesAreGiven : Type 0 where
   pub names : NamesAreFirst
   pub ports : PortsAreFirst

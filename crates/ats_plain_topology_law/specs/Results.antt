@@ -4,7 +4,7 @@ use Rattle.ats_num.specs.Failure.{◌>>=◌, ok_where, or_fault, unless}
 -- a value stands where there is one, else the fault; so it does where a test passes, and where no fault stands against
 -- it. One step follows another that gave a value, and a fault stays what it is. The words are for values and faults of
 -- any type, which they cannot tell apart from numbers
-pub record ResultsArePlain : Type 0 where
+pub record ResultsAreGiven : Type 0 where
   pub found : (fault : ℕ) (value : Option ℕ) → or_fault fault value ≡ ok_or value fault
   pub passes : (fault x : ℕ) → ok_where true fault x ≡ Ok x
   pub fails : (fault x : ℕ) → ok_where false fault x ≡ Err fault

@@ -1,5 +1,0 @@
-use Rattle.ats_plain_bound_law.proofs.PartProofs.{parts_are_plain}
-use Rattle.ats_plain_bound_law.proofs.laws.parts_are_plain.Goals as goal
-
-pub returns : goal.returns
-returns c = parts_are_plain

@@ -1,5 +1,0 @@
-use Rattle.ats_plain_bound_law.proofs.RequestProofs.{requests_are_plain}
-use Rattle.ats_plain_bound_law.proofs.laws.requests_are_plain.Goals as goal
-
-pub returns : goal.returns
-returns c = requests_are_plain

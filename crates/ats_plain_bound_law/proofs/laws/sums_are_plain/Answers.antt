@@ -1,5 +1,0 @@
-use Rattle.ats_plain_bound_law.proofs.SumProofs.{sums_are_plain}
-use Rattle.ats_plain_bound_law.proofs.laws.sums_are_plain.Goals as goal
-
-pub returns : goal.returns
-returns c = sums_are_plain

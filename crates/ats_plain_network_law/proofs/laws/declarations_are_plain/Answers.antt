@@ -1,5 +1,0 @@
-use Rattle.ats_plain_network_law.proofs.DeclarationProofs.{declarations_are_plain}
-use Rattle.ats_plain_network_law.proofs.laws.declarations_are_plain.Goals as goal
-
-pub returns : goal.returns
-returns c = declarations_are_plain

@@ -1,5 +1,0 @@
-use Rattle.ats_plain_network_law.proofs.GroupProofs.{groups_are_plain}
-use Rattle.ats_plain_network_law.proofs.laws.groups_are_plain.Goals as goal
-
-pub returns : goal.returns
-returns c = groups_are_plain

@@ -1,5 +1,0 @@
-use Rattle.ats_plain_network_law.proofs.PortRuleProofs.{port_rule_is_plain}
-use Rattle.ats_plain_network_law.proofs.laws.port_rule_is_plain.Goals as goal
-
-pub returns : goal.returns
-returns c = port_rule_is_plain

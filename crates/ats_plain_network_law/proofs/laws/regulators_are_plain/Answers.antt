@@ -1,5 +1,0 @@
-use Rattle.ats_plain_network_law.proofs.RegulatorProofs.{regulators_are_plain}
-use Rattle.ats_plain_network_law.proofs.laws.regulators_are_plain.Goals as goal
-
-pub returns : goal.returns
-returns c = regulators_are_plain

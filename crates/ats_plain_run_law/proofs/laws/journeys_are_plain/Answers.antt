@@ -1,5 +1,0 @@
-use Rattle.ats_plain_run_law.proofs.JourneyProofs.{journeys_are_plain}
-use Rattle.ats_plain_run_law.proofs.laws.journeys_are_plain.Goals as goal
-
-pub returns : goal.returns
-returns c = journeys_are_plain

@@ -1,5 +1,0 @@
-use Rattle.ats_plain_run_law.proofs.MeasureProofs.{measures_are_plain}
-use Rattle.ats_plain_run_law.proofs.laws.measures_are_plain.Goals as goal
-
-pub returns : goal.returns
-returns c = measures_are_plain

@@ -1,5 +1,0 @@
-use Rattle.ats_plain_run_law.proofs.ReleaseProofs.{releases_are_plain}
-use Rattle.ats_plain_run_law.proofs.laws.releases_are_plain.Goals as goal
-
-pub returns : goal.returns
-returns c = releases_are_plain

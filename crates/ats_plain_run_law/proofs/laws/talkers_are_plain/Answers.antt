@@ -1,5 +1,0 @@
-use Rattle.ats_plain_run_law.proofs.TalkerProofs.{talkers_are_plain}
-use Rattle.ats_plain_run_law.proofs.laws.talkers_are_plain.Goals as goal
-
-pub returns : goal.returns
-returns c = talkers_are_plain

@@ -1,5 +1,0 @@
-use Rattle.ats_plain_run_law.proofs.TellingProofs.{tellings_are_plain}
-use Rattle.ats_plain_run_law.proofs.laws.tellings_are_plain.Goals as goal
-
-pub returns : goal.returns
-returns c = tellings_are_plain

@@ -1,5 +1,0 @@
-use Rattle.ats_plain_topology_law.proofs.LeadProofs.{leads_are_plain}
-use Rattle.ats_plain_topology_law.proofs.laws.leads_are_plain.Goals as goal
-
-pub returns : goal.returns
-returns c = leads_are_plain

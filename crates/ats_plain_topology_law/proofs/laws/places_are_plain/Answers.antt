@@ -1,5 +1,0 @@
-use Rattle.ats_plain_topology_law.proofs.PlaceProofs.{places_are_plain}
-use Rattle.ats_plain_topology_law.proofs.laws.places_are_plain.Goals as goal
-
-pub returns : goal.returns
-returns c = places_are_plain

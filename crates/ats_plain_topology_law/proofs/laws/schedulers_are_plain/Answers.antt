@@ -1,5 +1,0 @@
-use Rattle.ats_plain_topology_law.proofs.SchedulerProofs.{schedulers_are_plain}
-use Rattle.ats_plain_topology_law.proofs.laws.schedulers_are_plain.Goals as goal
-
-pub returns : goal.returns
-returns c = schedulers_are_plain

@@ -1,5 +1,0 @@
-use Rattle.ats_plain_topology_law.proofs.TopologyProofs.{topologies_are_plain}
-use Rattle.ats_plain_topology_law.proofs.laws.topologies_are_plain.Goals as goal
-
-pub returns : goal.returns
-returns c = topologies_are_plain
