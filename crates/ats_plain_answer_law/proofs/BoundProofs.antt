@@ -19,9 +19,9 @@ use Rattle.ats_command_due.specs.Due.{admit_answer, bound_answer, buffers_answer
 use Rattle.ats_command_due.specs.Due.{lrq_bound_answer, lrq_check_answer, lrq_shape_answer, shape_answer, show_answer}
 use Rattle.ats_command_due.specs.Judged.{admission_judged, bound_judged, buffers_judged, certificate_judged}
 use Rattle.ats_command_due.specs.Judged.{check_judged, explain_judged, requests_judged, rows_judged}
-use Rattle.ats_plain_answer_law.specs.Bounds.{AdmitIsPlain, BoundAnswersArePlain, BoundIsPlain, BuffersArePlain}
-use Rattle.ats_plain_answer_law.specs.Bounds.{CheckIsPlain, ExplainIsPlain, LrqBoundIsPlain, LrqCheckIsPlain}
-use Rattle.ats_plain_answer_law.specs.Bounds.{ShapeIsPlain, ShowIsPlain}
+use Rattle.ats_plain_answer_law.specs.Bounds.{AdmitIsAnswered, BoundIsAnswered, BoundsAreAnswered, BuffersAreAnswered}
+use Rattle.ats_plain_answer_law.specs.Bounds.{CheckIsAnswered, ExplainIsAnswered, LrqBoundIsAnswered}
+use Rattle.ats_plain_answer_law.specs.Bounds.{LrqCheckIsAnswered, ShapeIsAnswered, ShowIsAnswered}
 use Rattle.ats_plain_answer_law.proofs.Stepping.{by_value, weighed}
 
 -- The answer to each command of which one text is due.
@@ -32,7 +32,7 @@ shown shape = Ok (text_of shape)
 abbrev lrq_shown : DeclaredShape → Result (List ℕ) Answer
 lrq_shown shape = Ok (lrq_text_of shape)
 
-shape : ShapeIsPlain
+shape : ShapeIsAnswered
 unfolding shape_answer lrq_shape_answer
 shape = record {
   not_taken = λ file bytes due is. ap (by_value shown) is;
@@ -44,14 +44,14 @@ shape = record {
 abbrev drawn : DeclaredNetwork → Result (List ℕ) Answer
 drawn network = Ok (show_text network)
 
-show : ShowIsPlain
+show : ShowIsAnswered
 unfolding show_answer
 show = record {
   not_taken = λ net bytes due is. ap (by_value drawn) is;
   done = λ net bytes network is. ap (by_value drawn) is;
 }
 
-bound : BoundIsPlain
+bound : BoundIsAnswered
 unfolding bound_answer bound_judged
 bound = record {
   not_taken = λ net bytes due is. ap (by_value bound_judged) is;
@@ -64,7 +64,7 @@ bound = record {
 abbrev narrow_bound : DeclaredNetwork → Result (List ℕ) Answer
 narrow_bound network = bound_judged (narrowed network)
 
-lrq_bound : LrqBoundIsPlain
+lrq_bound : LrqBoundIsAnswered
 unfolding lrq_bound_answer bound_judged
 lrq_bound = record {
   not_taken = λ net bytes due is. ap (by_value narrow_bound) is;
@@ -76,7 +76,7 @@ lrq_bound = record {
       (certificate_text network.topology (least_certificate (narrowed network)))) why;
 }
 
-explain : ExplainIsPlain
+explain : ExplainIsAnswered
 unfolding explain_answer explain_judged
 explain = record {
   not_taken = λ net bytes due is. ap (by_value explain_judged) is;
@@ -90,7 +90,7 @@ explain = record {
 abbrev checked : List ℕ → List ℕ → DeclaredNetwork → Result (List ℕ) Answer
 checked certificate bytes network = certificate_judged network certificate bytes
 
-check : CheckIsPlain
+check : CheckIsAnswered
 unfolding check_answer check_judged
 check = record {
   not_taken = λ net certificate net_bytes bytes due is. ap (by_value (checked certificate bytes)) is;
@@ -107,7 +107,7 @@ check = record {
 abbrev narrow_checked : List ℕ → List ℕ → DeclaredNetwork → Result (List ℕ) Answer
 narrow_checked certificate bytes network = certificate_judged (narrowed network) certificate bytes
 
-lrq_check : LrqCheckIsPlain
+lrq_check : LrqCheckIsAnswered
 unfolding lrq_check_answer check_judged
 lrq_check = record {
   not_taken = λ net certificate net_bytes bytes due is. ap (by_value (narrow_checked certificate bytes)) is;
@@ -127,7 +127,7 @@ held certificate bytes network = rows_judged network certificate bytes
 abbrev buffered : DeclaredNetwork → List Row → List ℕ
 buffered network rows = buffers_text network.topology rows (buffers_of network rows) None
 
-buffers : BuffersArePlain
+buffers : BuffersAreAnswered
 unfolding buffers_answer buffers_judged
 buffers = record {
   not_taken = λ net certificate net_bytes bytes due is. ap (by_value (held certificate bytes)) is;
@@ -144,7 +144,7 @@ buffers = record {
 abbrev entered : List ℕ → List ℕ → DeclaredNetwork → Result (List ℕ) Answer
 entered requests bytes network = requests_judged network requests bytes
 
-admit : AdmitIsPlain
+admit : AdmitIsAnswered
 unfolding admit_answer admission_judged
 admit = record {
   not_taken = λ net requests net_bytes bytes due is. ap (by_value (entered requests bytes)) is;
@@ -158,8 +158,8 @@ admit = record {
       ∙ ap (weighed (reason_text network.topology) (admission_text network asked)) why;
 }
 
-pub bound_answers_are_plain : BoundAnswersArePlain
-bound_answers_are_plain = record {
+pub bounds_are_answered : BoundsAreAnswered
+bounds_are_answered = record {
   shape = shape;
   show = show;
   bound = bound;

@@ -4,12 +4,12 @@ use Rattle.ats_command_input.specs.declared.status.Status.{Status}
 use Rattle.ats_command_input.specs.declared.status.Status.TheVariants.{Done, Input, NoMemory, ReadFailed, Refused}
 use Rattle.ats_command_input.specs.declared.status.Status.TheVariants.{Words, WriteFailed}
 use Rattle.ats_command_due.specs.Due.{IsAnswer, told_bytes}
-use Rattle.ats_plain_answer_law.specs.Calls.{CallsArePlain, OutcomesArePlain, PrintingIsPlain, PromisesArePrinted}
-use Rattle.ats_plain_answer_law.specs.Calls.{ReadingIsPlain}
+use Rattle.ats_plain_answer_law.specs.Calls.{CallsAreAnswered, CallsReadFiles, OutcomesAreAnswered, PromisesArePrinted}
+use Rattle.ats_plain_answer_law.specs.Calls.{TextsArePrinted}
 
 -- What a call did: what it printed, what it promises of that, and what it read.
 
-outcomes : OutcomesArePlain
+outcomes : OutcomesAreAnswered
 outcomes = record {
   done = λ told command text. (λ is. is, λ is. is);
   faulty = λ told command text. (λ is. is, λ is. is);
@@ -37,7 +37,7 @@ has_text status (inr (inl is)) = subst HasText (sym is) tt
 has_text status (inr (inr (inl is))) = subst HasText (sym is) tt
 has_text status (inr (inr (inr is))) = subst HasText (sym is) tt
 
-printing : PrintingIsPlain
+printing : TextsArePrinted
 printing = record {
   has_text = λ status. (is_printed status, has_text status);
   whole = λ told command status old new. (
@@ -72,7 +72,7 @@ printing = record {
 promises : PromisesArePrinted
 promises = record { printed = λ told command old new. (λ is. is, λ is. is) }
 
-reading : ReadingIsPlain
+reading : CallsReadFiles
 reading = record {
   reads = λ told faults made command old new result. (
     λ is. (is.failed, is.calm, is.continues, is.in_turn),
@@ -85,8 +85,8 @@ reading = record {
   );
 }
 
-pub calls_are_plain : CallsArePlain
-calls_are_plain = record {
+pub calls_are_answered : CallsAreAnswered
+calls_are_answered = record {
   outcomes = outcomes;
   printing = printing;
   promises = promises;

@@ -8,12 +8,11 @@ use Rattle.ats_command_input.specs.Input.{network_in, rows_in}
 use Rattle.ats_command_input.specs.Port.{port_in}
 use Rattle.ats_command_input.specs.Station.{station_in}
 use Rattle.ats_command_due.specs.Due.{Declares, DeclaresPort, DeclaresRows, DeclaresStation}
-use Rattle.ats_plain_answer_law.specs.Commands.{AnswersArePlain, CommandsArePlain, DeclaringIsPlain}
-use Rattle.ats_plain_answer_law.specs.Commands.{ReadFaultsArePlain}
+use Rattle.ats_plain_answer_law.specs.Commands.{AnswersAreOfBytes, CommandsAreAnswered, FaultsAreOfReads, FilesDeclare}
 
 -- The answer to each command, and at which of its files a fault may come.
 
-answers : AnswersArePlain
+answers : AnswersAreOfBytes
 answers = record {
   shape = λ bytes file answer. (λ is. is, λ is. is);
   show = λ bytes net answer. (λ is. is, λ is. is);
@@ -57,7 +56,7 @@ are_read : {A B : Type 0} (read : Result A Answer) (go : A → Result B Answer) 
 are_read {A} {B} read go value other is are =
     is_read (read >>= go) other (ap (λ (r : Result A Answer). r >>= go) is ∙ are)
 
-declaring : DeclaringIsPlain
+declaring : FilesDeclare
 declaring = record {
   network = λ told net. (
     λ is bytes there. some_value (network_in net bytes) (is bytes there),
@@ -132,7 +131,7 @@ at_three old new first second third Comes Goes = (λ is. to is.0 is.1 is.2, from
     from (inr (inl (comes, rose))) = (second, inr (inl (refl, comes)), rose)
     from (inr (inr (goes, rose))) = (third, inr (inr (refl, goes)), rose)
 
-read_faults : ReadFaultsArePlain
+read_faults : FaultsAreOfReads
 read_faults = record {
   shape = λ told file old new. at_one old new file;
   show = λ told net old new. at_one old new net;
@@ -158,8 +157,8 @@ read_faults = record {
   no_command = λ told old new. (λ is. is.1, λ is. absurd is);
 }
 
-pub commands_are_plain : CommandsArePlain
-commands_are_plain = record {
+pub commands_are_answered : CommandsAreAnswered
+commands_are_answered = record {
   answers = answers;
   declaring = declaring;
   read_faults = read_faults;

@@ -18,9 +18,9 @@ use Rattle.ats_capture.specs.FaultText as capture
 use Rattle.ats_capture.specs.Traffic.{Traffic, traffic_of}
 use Rattle.ats_command_input.specs.Answer.{Answer}
 use Rattle.ats_command_input.specs.Input.{bytes_in, declared_in, network_in, releases_in, requests_in, rows_in}
-use Rattle.ats_command_input.specs.Input.{shape_in, traffic_in}
-use Rattle.ats_plain_answer_law.specs.Files.{CapturesArePlain, FilesArePlain, NetworksArePlain, RequestFilesArePlain}
-use Rattle.ats_plain_answer_law.specs.Files.{RowsArePlain, SchedulesArePlain, ShapesArePlain}
+use Rattle.ats_command_input.specs.Input.{records_in, shape_in, traffic_in}
+use Rattle.ats_plain_answer_law.specs.Files.{CapturesAreTaken, InputsAreTaken, NetworksAreTaken, RequestFilesAreTaken}
+use Rattle.ats_plain_answer_law.specs.Files.{RowsAreTaken, SchedulesAreTaken, ShapesAreTaken}
 use Rattle.ats_plain_answer_law.specs.Lines.{not_taken}
 
 -- What is taken from each kind of file.
@@ -47,7 +47,7 @@ fits : {A F : Type 0} (most : ℕ) (words : F → List ℕ) (declared : List ℕ
 fits most words declared file bytes due few is =
     ap (by_test words declared file bytes) (le-ltb most (length bytes) few) ∙ ap (declared_in file words) is
 
-shapes : ShapesArePlain
+shapes : ShapesAreTaken
 unfolding shape_in
 shapes = record {
   too_long = λ file bytes more. too_long 16777216 shape.fault_text shape_of file bytes more;
@@ -55,7 +55,7 @@ shapes = record {
   declared = λ file bytes found few is. fits 16777216 shape.fault_text shape_of file bytes (Ok found) few is;
 }
 
-networks : NetworksArePlain
+networks : NetworksAreTaken
 unfolding network_in
 networks = record {
   too_long = λ file bytes more. too_long 16777216 network.fault_text network_of file bytes more;
@@ -63,7 +63,7 @@ networks = record {
   declared = λ file bytes found few is. fits 16777216 network.fault_text network_of file bytes (Ok found) few is;
 }
 
-rows : RowsArePlain
+rows : RowsAreTaken
 unfolding rows_in
 rows = record {
   too_long = λ topology file bytes more. too_long 16777216 certificate.fault_text (rows_of topology) file bytes more;
@@ -73,7 +73,7 @@ rows = record {
       fits 16777216 certificate.fault_text (rows_of topology) file bytes (Ok found) few is;
 }
 
-schedules : SchedulesArePlain
+schedules : SchedulesAreTaken
 unfolding releases_in
 schedules = record {
   too_long = λ over file bytes more. too_long 33554432 schedule.fault_text (releases_of over) file bytes more;
@@ -83,7 +83,7 @@ schedules = record {
       fits 33554432 schedule.fault_text (releases_of over) file bytes (Ok found) few is;
 }
 
-asked : RequestFilesArePlain
+asked : RequestFilesAreTaken
 unfolding requests_in
 asked = record {
   too_long = λ over file bytes more. too_long 16777216 request.fault_text (requests_of over) file bytes more;
@@ -98,18 +98,16 @@ abbrev traffic_by : DeclaredNetwork → ℕ → List ℕ → Result (List Record
 traffic_by over station file read =
     read >>= λ records. declared_in file capture.fault_text (traffic_of over station records)
 
-captures : CapturesArePlain
-unfolding traffic_in
+captures : CapturesAreTaken
+unfolding records_in traffic_in
 captures = record {
+  faulty = λ file bytes fault is. ap (declared_in file capture.records_fault_text) is;
+  declared = λ file bytes records is. ap (declared_in file capture.records_fault_text) is;
   unread = λ over station file bytes due is. ap (traffic_by over station file) is;
-  faulty = λ over station file bytes records fault read is.
-      ap (traffic_by over station file) read ∙ ap (declared_in file capture.fault_text) is;
-  joined = λ over station file bytes records traffic read is.
-      ap (traffic_by over station file) read ∙ ap (declared_in file capture.fault_text) is;
 }
 
-pub files_are_plain : FilesArePlain
-files_are_plain = record {
+pub inputs_are_taken : InputsAreTaken
+inputs_are_taken = record {
   shapes = shapes;
   networks = networks;
   rows = rows;

@@ -1,4 +1,4 @@
-use Rattle.std.proofs.Common.{◌≡◌, ◌⊎◌, inl, inr, ℕ, List, Ok, Err, refl, ap}
+use Rattle.std.proofs.Common.{◌≡◌, ◌⊎◌, inl, inr, ℕ, List, Ok, Err, ap}
 use Rattle.std.specs.Prelude.{◌++◌, Result, codes, decimal, length}
 use Rattle.ats_network.specs.Network.{DeclaredNetwork}
 use Rattle.ats_trace.specs.declared.journey.Release.{Release}
@@ -15,8 +15,8 @@ use Rattle.ats_command_due.specs.Released.{released_in, released_text}
 use Rattle.ats_command_due.specs.Replayed.{IsOneOf, Scheduled, scheduled_in}
 use Rattle.ats_command_due.specs.Set.{TellsSettings}
 use Rattle.ats_plain_answer_law.specs.Lines.{done_with, refused_for}
-use Rattle.ats_plain_answer_law.specs.Judged.{ConformIsPlain, FitIsPlain, JudgedAnswersArePlain, NoneMadeIsPlain}
-use Rattle.ats_plain_answer_law.specs.Judged.{ReleasesArePlain, SettingsArePlain}
+use Rattle.ats_plain_answer_law.specs.Judged.{ConformIsAnswered, FitIsAnswered, JudgingIsAnswered, ReleasesAreAnswered}
+use Rattle.ats_plain_answer_law.specs.Judged.{SettingsAreAnswered}
 use Rattle.ats_plain_answer_law.proofs.Reading.{captured_is, scheduled_is, uncaptured, unjoined, unreleased}
 use Rattle.ats_plain_answer_law.proofs.Reading.{unscheduled, unstationed}
 use Rattle.ats_plain_answer_law.proofs.Stepping.{alike, by_value, through}
@@ -45,7 +45,7 @@ by_broken network releases answer (inl is) = inl (record { keeps = is.0; done = 
 by_broken network releases answer (inr (inl is)) = inr (Size is.0, record { breaks = is.1; refused = is.2 })
 by_broken network releases answer (inr (inr is)) = inr (Bucket is.0 is.1, record { breaks = is.2; refused = is.3 })
 
-conform : ConformIsPlain
+conform : ConformIsAnswered
 conform = record {
   not_taken = λ net schedule net_bytes bytes answer due is.
       alike (λ (d : Result Scheduled Answer). IsAnswerTo JudgesScheduled d answer)
@@ -61,7 +61,7 @@ conform = record {
       (by_frame network releases answer) (by_broken network releases answer);
 }
 
-fit : FitIsPlain
+fit : FitIsAnswered
 fit = record {
   not_taken = λ net schedule net_bytes bytes answer due is.
       alike (λ (d : Result Scheduled Answer). IsOneOf IsFitted d answer)
@@ -81,7 +81,7 @@ fit = record {
 abbrev released : Captured → Result (List ℕ) Answer
 released captured = Ok (released_text captured.network captured.traffic)
 
-releases : ReleasesArePlain
+releases : ReleasesAreAnswered
 unfolding releases_answer released_in
 releases = record {
   not_taken = λ net station file net_bytes bytes due is.
@@ -94,7 +94,7 @@ releases = record {
       ap (by_value released) (captured_is net station file net_bytes bytes network place traffic is named joined);
 }
 
-settings : SettingsArePlain
+settings : SettingsAreAnswered
 settings = record {
   not_taken = λ net bytes answer due is.
       alike (λ (d : Result DeclaredNetwork Answer). IsAnswerTo TellsSettings d answer) (network_in net bytes)
@@ -106,17 +106,10 @@ settings = record {
       (λ h. (h.0, record { are = h.1; done = h.2 }));
 }
 
-none_made : NoneMadeIsPlain
-none_made = record {
-  no_stream = refl;
-  limit = refl;
-}
-
-pub judged_answers_are_plain : JudgedAnswersArePlain
-judged_answers_are_plain = record {
+pub judging_is_answered : JudgingIsAnswered
+judging_is_answered = record {
   conform = conform;
   fit = fit;
   releases = releases;
   settings = settings;
-  none_made = none_made;
 }

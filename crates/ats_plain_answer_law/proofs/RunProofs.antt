@@ -10,8 +10,8 @@ use Rattle.ats_command_due.specs.Recorded.{IsRecorded, Recorded, recorded_in}
 use Rattle.ats_command_due.specs.Replayed.{IsOneOf, IsReplayed, Scheduled, scheduled_in}
 use Rattle.ats_command_due.specs.Witnessed.{IsWitnessed, Witnessed, witnessed, witnessed_in}
 use Rattle.ats_plain_answer_law.specs.Lines.{refused_for}
-use Rattle.ats_plain_answer_law.specs.Runs.{CaptureIsPlain, GenerateIsPlain, PeaksArePlain, RecordIsPlain}
-use Rattle.ats_plain_answer_law.specs.Runs.{ReplayIsPlain, RunAnswersArePlain, WitnessIsPlain}
+use Rattle.ats_plain_answer_law.specs.Runs.{CaptureIsAnswered, GenerateIsAnswered, PeaksAreAnswered, RecordIsAnswered}
+use Rattle.ats_plain_answer_law.specs.Runs.{ReplayIsAnswered, RunsAreAnswered, WitnessIsAnswered}
 use Rattle.ats_plain_answer_law.proofs.Reading.{captured_is, held_unless, made_is, not_made, recorded_is, scheduled_is}
 use Rattle.ats_plain_answer_law.proofs.Reading.{uncaptured, unfilled, unheld, unjoined, unmade, unplayed, unported}
 use Rattle.ats_plain_answer_law.proofs.Reading.{unrecorded, unreleased, unrowed, unscheduled, unstationed, unstreamed}
@@ -20,7 +20,7 @@ use Rattle.ats_plain_answer_law.proofs.Stepping.{alike, through, unless}
 
 -- Which answers there are to each command that runs frames.
 
-replay : ReplayIsPlain
+replay : ReplayIsAnswered
 replay = record {
   not_taken = λ net schedule net_bytes bytes order answer due is.
       alike (λ (d : Result Scheduled Answer). IsOneOf (IsReplayed order) d answer)
@@ -40,7 +40,7 @@ replay = record {
       ));
 }
 
-capture : CaptureIsPlain
+capture : CaptureIsAnswered
 capture = record {
   not_taken = λ net station file net_bytes bytes order answer due is.
       alike (λ (d : Result Captured Answer). IsOneOf (IsCaptured order) d answer)
@@ -64,7 +64,7 @@ capture = record {
       ));
 }
 
-of_port : RecordIsPlain
+of_port : RecordIsAnswered
 of_port = record {
   not_taken = λ net schedule port net_bytes bytes order answer due is.
       alike (λ (d : Result Recorded Answer). IsOneOf (IsRecorded order) d answer)
@@ -89,7 +89,7 @@ of_port = record {
       ));
 }
 
-peaks : PeaksArePlain
+peaks : PeaksAreAnswered
 peaks = record {
   not_taken = λ net certificate schedule net_bytes rows_bytes bytes order answer due is.
       alike (λ (d : Result Held Answer). IsOneOf (IsHeldText order) d answer)
@@ -133,7 +133,7 @@ peaks = record {
       ));
 }
 
-generate : GenerateIsPlain
+generate : GenerateIsAnswered
 generate = record {
   not_taken = λ net bytes seed count answer due is.
       alike (λ (d : Result DeclaredNetwork Answer). IsOneOf (IsGenerated seed count) d answer)
@@ -163,7 +163,7 @@ generate = record {
       ));
 }
 
-witness : WitnessIsPlain
+witness : WitnessIsAnswered
 witness = record {
   not_taken = λ net name bytes answer due is.
       alike (λ (d : Result Witnessed Answer). IsOneOf IsWitnessed d answer) (witnessed_in net name bytes) (Err due)
@@ -185,8 +185,8 @@ witness = record {
       (λ h. (h.1, (h.0, record { are_found = h.2; written = h.3 })));
 }
 
-pub run_answers_are_plain : RunAnswersArePlain
-run_answers_are_plain = record {
+pub runs_are_answered : RunsAreAnswered
+runs_are_answered = record {
   replay = replay;
   capture = capture;
   of_port = of_port;

@@ -1,13 +1,12 @@
 use Rattle.std.proofs.Common.{refl}
 use Rattle.ats_command_input.specs.Command.{lrq_with_one, lrq_with_two, with_four, with_one, with_three, with_two}
-use Rattle.ats_plain_answer_law.specs.Verbs.{OrdersAreAsked, VerbsArePlain, VerbsAreRead}
+use Rattle.ats_plain_answer_law.specs.Verbs.{OrdersAreAsked, VerbsAreNamed, VerbsAreRead}
 
 -- Which command words name.
 
 read : VerbsAreRead
 unfolding lrq_with_one lrq_with_two with_four with_one with_three with_two
 read = record {
-  none = refl;
   alone = λ verb. refl;
   one = λ verb file. refl;
   two = λ verb net file. refl;
@@ -32,8 +31,8 @@ orders = record {
   neither = λ net. refl;
 }
 
-pub verbs_are_plain : VerbsArePlain
-verbs_are_plain = record {
+pub verbs_are_named : VerbsAreNamed
+verbs_are_named = record {
   read = read;
   orders = orders;
 }

@@ -1,10 +1,10 @@
 use Rattle.std.proofs.Common.{refl}
-use Rattle.ats_plain_answer_law.specs.Views.{ViewsArePlain}
+use Rattle.ats_plain_answer_law.specs.Views.{ViewsAreNamed}
 
 -- Which line of the table a value of the program stands for.
 
-pub views_are_plain : ViewsArePlain
-views_are_plain = record {
+pub views_are_named : ViewsAreNamed
+views_are_named = record {
   shape = λ file. refl;
   show = λ net. refl;
   bound = λ net. refl;

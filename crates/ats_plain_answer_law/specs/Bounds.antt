@@ -30,7 +30,7 @@ use Rattle.ats_plain_answer_law.specs.Lines.{done_with, refused_for}
 -- network's before that of the other; of what is taken either something stands against it, or the command is done.
 
 -- `shape FILE` and `lrq shape FILE`: the verdicts of the one regulator and of the other
-pub record ShapeIsPlain : Type 0 where
+pub record ShapeIsAnswered : Type 0 where
   pub not_taken : (file bytes : List ℕ) (due : Answer) → shape_in file bytes ≡ Err due → shape_answer file bytes ≡ due
   pub done : (file bytes : List ℕ) (shape : DeclaredShape) → shape_in file bytes ≡ Ok shape
       → shape_answer file bytes ≡ done_with (text_of shape)
@@ -40,13 +40,13 @@ pub record ShapeIsPlain : Type 0 where
       → lrq_shape_answer file bytes ≡ done_with (lrq_text_of shape)
 
 -- `show NET`: a network that is taken is shown, whatever its bounds
-pub record ShowIsPlain : Type 0 where
+pub record ShowIsAnswered : Type 0 where
   pub not_taken : (net bytes : List ℕ) (due : Answer) → network_in net bytes ≡ Err due → show_answer net bytes ≡ due
   pub done : (net bytes : List ℕ) (network : DeclaredNetwork) → network_in net bytes ≡ Ok network
       → show_answer net bytes ≡ done_with (show_text network)
 
 -- `bound NET`: the least certificate, or the first reason why none holds
-pub record BoundIsPlain : Type 0 where
+pub record BoundIsAnswered : Type 0 where
   pub not_taken : (net bytes : List ℕ) (due : Answer) → network_in net bytes ≡ Err due → bound_answer net bytes ≡ due
   pub refused : (net bytes : List ℕ) (network : DeclaredNetwork) (reason : Reason) → network_in net bytes ≡ Ok network
       → reason_of network ≡ Some reason
@@ -56,7 +56,7 @@ pub record BoundIsPlain : Type 0 where
       → bound_answer net bytes ≡ done_with (certificate_text network.topology (least_certificate network))
 
 -- `lrq bound NET`: the same of the network whose streams have their longest frames as bursts
-pub record LrqBoundIsPlain : Type 0 where
+pub record LrqBoundIsAnswered : Type 0 where
   pub not_taken : (net bytes : List ℕ) (due : Answer) → network_in net bytes ≡ Err due
       → lrq_bound_answer net bytes ≡ due
   pub refused : (net bytes : List ℕ) (network : DeclaredNetwork) (reason : Reason) → network_in net bytes ≡ Ok network
@@ -68,7 +68,7 @@ pub record LrqBoundIsPlain : Type 0 where
       ≡ done_with (certificate_text network.topology (least_certificate (narrowed network)))
 
 -- `explain NET`: refused for an overloaded port and class alone; late streams are explained
-pub record ExplainIsPlain : Type 0 where
+pub record ExplainIsAnswered : Type 0 where
   pub not_taken : (net bytes : List ℕ) (due : Answer) → network_in net bytes ≡ Err due
       → explain_answer net bytes ≡ due
   pub refused : (net bytes : List ℕ) (network : DeclaredNetwork) (reason : Reason) → network_in net bytes ≡ Ok network
@@ -79,7 +79,7 @@ pub record ExplainIsPlain : Type 0 where
       → explain_answer net bytes ≡ done_with (explain_text network)
 
 -- `check NET CERT`: the sums by the rows, or the first refusal of them
-pub record CheckIsPlain : Type 0 where
+pub record CheckIsAnswered : Type 0 where
   pub not_taken : (net certificate net_bytes certificate_bytes : List ℕ) (due : Answer)
       → network_in net net_bytes ≡ Err due
       → check_answer net certificate net_bytes certificate_bytes ≡ due
@@ -96,7 +96,7 @@ pub record CheckIsPlain : Type 0 where
       → check_answer net certificate net_bytes certificate_bytes ≡ done_with (accepted_text network rows)
 
 -- `lrq check NET CERT`: the same of the network whose streams have their longest frames as bursts
-pub record LrqCheckIsPlain : Type 0 where
+pub record LrqCheckIsAnswered : Type 0 where
   pub not_taken : (net certificate net_bytes certificate_bytes : List ℕ) (due : Answer)
       → network_in net net_bytes ≡ Err due
       → lrq_check_answer net certificate net_bytes certificate_bytes ≡ due
@@ -116,7 +116,7 @@ pub record LrqCheckIsPlain : Type 0 where
       ≡ done_with (accepted_text (narrowed network) rows)
 
 -- `buffers NET CERT`: the buffers of the rows, without peaks, or the first refusal of them
-pub record BuffersArePlain : Type 0 where
+pub record BuffersAreAnswered : Type 0 where
   pub not_taken : (net certificate net_bytes certificate_bytes : List ℕ) (due : Answer)
       → network_in net net_bytes ≡ Err due
       → buffers_answer net certificate net_bytes certificate_bytes ≡ due
@@ -135,7 +135,7 @@ pub record BuffersArePlain : Type 0 where
       ≡ done_with (buffers_text network.topology rows (buffers_of network rows) None)
 
 -- `admit NET REQUESTS`: the answers to the requests, which are read before the network is judged
-pub record AdmitIsPlain : Type 0 where
+pub record AdmitIsAnswered : Type 0 where
   pub not_taken : (net requests net_bytes requests_bytes : List ℕ) (due : Answer)
       → network_in net net_bytes ≡ Err due
       → admit_answer net requests net_bytes requests_bytes ≡ due
@@ -151,13 +151,13 @@ pub record AdmitIsPlain : Type 0 where
       → reason_of network ≡ None
       → admit_answer net requests net_bytes requests_bytes ≡ done_with (admission_text network asked)
 
-pub record BoundAnswersArePlain : Type 0 where
-  pub shape : ShapeIsPlain
-  pub show : ShowIsPlain
-  pub bound : BoundIsPlain
-  pub lrq_bound : LrqBoundIsPlain
-  pub explain : ExplainIsPlain
-  pub check : CheckIsPlain
-  pub lrq_check : LrqCheckIsPlain
-  pub buffers : BuffersArePlain
-  pub admit : AdmitIsPlain
+pub record BoundsAreAnswered : Type 0 where
+  pub shape : ShapeIsAnswered
+  pub show : ShowIsAnswered
+  pub bound : BoundIsAnswered
+  pub lrq_bound : LrqBoundIsAnswered
+  pub explain : ExplainIsAnswered
+  pub check : CheckIsAnswered
+  pub lrq_check : LrqCheckIsAnswered
+  pub buffers : BuffersAreAnswered
+  pub admit : AdmitIsAnswered

@@ -1,6 +1,5 @@
-use Rattle.std.specs.Prelude.{◌≡◌, ◌↔◌, ◌⊎◌, ℕ, List, Option, Ok, Err, IsErrOf}
+use Rattle.std.specs.Prelude.{◌≡◌, ◌↔◌, ◌⊎◌, ℕ, List, Option, Ok, Err, IsErrOf, Result}
 use Rattle.std.specs.Global.{Vec}
-use Rattle.std.specs.Prelude.{Result}
 use Rattle.ats_io.specs.Outside.{Continues, TakesPrefix, appended}
 use Rattle.ats_io.specs.Reads.{Read, ReadsInTurn}
 use Rattle.ats_command_input.specs.Answer.{HasText}
@@ -15,7 +14,7 @@ use Rattle.ats_command_due.specs.Soundness.{PrintsAsPromised, Promises}
 
 -- what a command came to is an answer to it, where the bytes of its files are told: with Done, with Input or with
 -- Refused, and its text; where a read failed or memory ran out nothing is asked
-pub record OutcomesArePlain : Type 0 where
+pub record OutcomesAreAnswered : Type 0 where
   pub done : (told : List ℕ → Option (List ℕ)) (command : Command) (text : Vec ℕ) → Answers told command (Ok text)
       ↔ (IsTold told command
       → IsAnswer (told_bytes told) command (record { status = ends.Done; text = text.items }))
@@ -32,9 +31,10 @@ pub record OutcomesArePlain : Type 0 where
   pub no_memory : (told : List ℕ → Option (List ℕ)) (command : Command) → Answers told command (Err NoMemory)
       ↔ Unit {0}
 
--- what a call has printed: just this text, whole, which with the status is an answer to the command; or a front of the
--- text of one; and with which status there is one
-pub record PrintingIsPlain : Type 0 where
+-- with which statuses a text is printed; and what a call has printed: just this text, whole, which with the status is
+-- an answer to the command, or a front of the text of one. A status is due where the bytes of the files are told and
+-- some text is an answer with it
+pub record TextsArePrinted : Type 0 where
   pub has_text : (status : Status) → HasText status
       ↔ ((status ≡ ends.Done) ⊎ ((status ≡ ends.Words) ⊎ ((status ≡ ends.Input) ⊎ (status ≡ ends.Refused))))
   pub whole : (told : List ℕ → Option (List ℕ)) (command : Command) (status : Status) (old new : Option (List ℕ))
@@ -60,7 +60,7 @@ pub record PromisesArePrinted : Type 0 where
 -- a command that reads its files stops with ReadFailed only where a fault came at one that it comes to, and else no
 -- count of faults changed; the outside, whose states have numbers here, goes on; and its files were read in turn, and
 -- no others
-pub record ReadingIsPlain : Type 0 where
+pub record CallsReadFiles : Type 0 where
   pub reads : (told : ℕ → List ℕ → Option (List ℕ)) (faults : ℕ → List ℕ → ℕ) (made : ℕ → List Read)
       (command : Command) (old new : ℕ) (result : Result (Vec ℕ) Stop)
       → ReadsFiles told faults made command old new result
@@ -68,8 +68,8 @@ pub record ReadingIsPlain : Type 0 where
       × ((¬ IsErrOf result ReadFailed) → faults new ≡ faults old) × Continues told faults old new
       × ReadsInTurn (file_words command) (made old) (made new))
 
-pub record CallsArePlain : Type 0 where
-  pub outcomes : OutcomesArePlain
-  pub printing : PrintingIsPlain
+pub record CallsAreAnswered : Type 0 where
+  pub outcomes : OutcomesAreAnswered
+  pub printing : TextsArePrinted
   pub promises : PromisesArePrinted
-  pub reading : ReadingIsPlain
+  pub reading : CallsReadFiles

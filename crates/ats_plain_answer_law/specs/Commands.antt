@@ -12,16 +12,15 @@ use Rattle.ats_command_input.specs.Station.{station_in}
 use Rattle.ats_command_input.specs.declared.order.Order.{Order}
 use Rattle.ats_command_input.specs.declared.status.Status.TheVariants.{Words}
 use Rattle.ats_command_due.specs.Calls.{ReadRose}
-use Rattle.ats_command_due.specs.Due.{Declares, DeclaresPort, DeclaresRows, DeclaresStation, IsAnswer}
-use Rattle.ats_command_due.specs.Due.{IsCaptureAnswer, IsConformAnswer, IsFitAnswer, IsGenerateAnswer, IsPeaksAnswer}
-use Rattle.ats_command_due.specs.Due.{IsRecordAnswer, IsReplayAnswer, IsSettingsAnswer, IsWitnessAnswer}
-use Rattle.ats_command_due.specs.Due.{admit_answer, bound_answer, buffers_answer, check_answer, explain_answer}
-use Rattle.ats_command_due.specs.Due.{lrq_bound_answer, lrq_check_answer, lrq_shape_answer, releases_answer}
-use Rattle.ats_command_due.specs.Due.{shape_answer, show_answer}
+use Rattle.ats_command_due.specs.Due.{Declares, DeclaresPort, DeclaresRows, DeclaresStation, IsAnswer, IsCaptureAnswer}
+use Rattle.ats_command_due.specs.Due.{IsConformAnswer, IsFitAnswer, IsGenerateAnswer, IsPeaksAnswer, IsRecordAnswer}
+use Rattle.ats_command_due.specs.Due.{IsReplayAnswer, IsSettingsAnswer, IsWitnessAnswer, admit_answer, bound_answer}
+use Rattle.ats_command_due.specs.Due.{buffers_answer, check_answer, explain_answer, lrq_bound_answer, lrq_check_answer}
+use Rattle.ats_command_due.specs.Due.{lrq_shape_answer, releases_answer, shape_answer, show_answer}
 
 -- the answer to each command is that which the bytes of the files make that its words name, each under its own name;
 -- and to words that are no command it is the line `words`
-pub record AnswersArePlain : Type 0 where
+pub record AnswersAreOfBytes : Type 0 where
   pub shape : (bytes : List ℕ → List ℕ) (file : List ℕ) (answer : Answer) → IsAnswer bytes (Shape file) answer
       ↔ (answer ≡ shape_answer file (bytes file))
   pub show : (bytes : List ℕ → List ℕ) (net : List ℕ) (answer : Answer) → IsAnswer bytes (Show net) answer
@@ -80,7 +79,7 @@ pub record AnswersArePlain : Type 0 where
 
 -- where bytes are told under its name, a network is declared; a station or a port of it has this name; and so are rows
 -- for its ports
-pub record DeclaringIsPlain : Type 0 where
+pub record FilesDeclare : Type 0 where
   pub network : (told : List ℕ → Option (List ℕ)) (net : List ℕ) → Declares told net
       ↔ ((bytes : List ℕ) → told net ≡ Some bytes
       → (network : DeclaredNetwork) × (network_in net bytes ≡ Ok network))
@@ -97,8 +96,9 @@ pub record DeclaringIsPlain : Type 0 where
       → (network : DeclaredNetwork) × (rows : List Row) × (network_in net net_bytes ≡ Ok network)
       × (rows_in network.topology certificate bytes ≡ Ok rows))
 
--- a fault came at a file of a command: at its first, or at a later one that it comes to, as all before it is declared
-pub record ReadFaultsArePlain : Type 0 where
+-- a fault came at a file of a command: at its first, or at a later one that it comes to, as all before it is declared;
+-- and at none of words that are no command
+pub record FaultsAreOfReads : Type 0 where
   pub shape : (told : List ℕ → Option (List ℕ)) (file : List ℕ) (old new : List ℕ → ℕ)
       → ReadRose told (Shape file) old new ↔ Rose (old file) (new file)
   pub show : (told : List ℕ → Option (List ℕ)) (net : List ℕ) (old new : List ℕ → ℕ)
@@ -153,7 +153,7 @@ pub record ReadFaultsArePlain : Type 0 where
       ↔ (Rose (old net) (new net) ⊎ (Declares told net × Rose (old schedule) (new schedule)))
   pub no_command : (told : List ℕ → Option (List ℕ)) (old new : List ℕ → ℕ) → ReadRose told Unknown old new ↔ ⊥
 
-pub record CommandsArePlain : Type 0 where
-  pub answers : AnswersArePlain
-  pub declaring : DeclaringIsPlain
-  pub read_faults : ReadFaultsArePlain
+pub record CommandsAreAnswered : Type 0 where
+  pub answers : AnswersAreOfBytes
+  pub declaring : FilesDeclare
+  pub read_faults : FaultsAreOfReads

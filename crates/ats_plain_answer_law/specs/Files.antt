@@ -21,19 +21,20 @@ use Rattle.ats_request_file.specs.FaultText as requests
 use Rattle.ats_request_file.specs.Reading.{requests_of}
 use Rattle.ats_request_file.specs.declared.fault.RequestFault.{RequestFault}
 use Rattle.ats_pcap.specs.declared.record.Record.{Record}
-use Rattle.ats_capture.specs.FaultText as captures
-use Rattle.ats_capture.specs.Traffic.{Traffic, traffic_of}
-use Rattle.ats_capture.specs.declared.fault.JoinFault.{JoinFault}
+use Rattle.ats_capture.specs.FaultText.{records_fault_text}
+use Rattle.ats_capture.specs.Reading as captures
+use Rattle.ats_capture.specs.declared.fault.RecordsFault.{RecordsFault}
 use Rattle.ats_command_input.specs.Answer.{Answer}
 use Rattle.ats_command_input.specs.Input.{network_in, records_in, releases_in, requests_in, rows_in, shape_in}
 use Rattle.ats_command_input.specs.Input.{traffic_in}
 use Rattle.ats_plain_answer_law.specs.Lines.{not_taken}
 
--- What is taken from each kind of file, by its bytes: of more than so many nothing, whatever they are; of others what
--- they declare, or nothing where they have a fault. Where nothing is taken, the line says why.
+-- What is taken from a file, by its bytes: of more than so many nothing, whatever they are; of others what they
+-- declare, or nothing where they have a fault. Where nothing is taken, the line says why. (How many bytes a capture may
+-- have is told with its records, in `ats_plain_file_law`.)
 
 -- a shape, of at most 16777216 bytes
-pub record ShapesArePlain : Type 0 where
+pub record ShapesAreTaken : Type 0 where
   pub too_long : (file bytes : List ℕ) → 16777216 < length bytes
       → shape_in file bytes ≡ Err (not_taken file (codes "too-long"))
   pub faulty : (file bytes : List ℕ) (fault : ShapeFault) → length bytes ≤ 16777216 → shape_of bytes ≡ Err fault
@@ -42,7 +43,7 @@ pub record ShapesArePlain : Type 0 where
       → shape_in file bytes ≡ Ok shape
 
 -- a network, of at most 16777216 bytes
-pub record NetworksArePlain : Type 0 where
+pub record NetworksAreTaken : Type 0 where
   pub too_long : (file bytes : List ℕ) → 16777216 < length bytes
       → network_in file bytes ≡ Err (not_taken file (codes "too-long"))
   pub faulty : (file bytes : List ℕ) (fault : NetFault) → length bytes ≤ 16777216 → network_of bytes ≡ Err fault
@@ -52,7 +53,7 @@ pub record NetworksArePlain : Type 0 where
       → network_in file bytes ≡ Ok network
 
 -- the rows of a certificate for the ports of a topology, of at most 16777216 bytes
-pub record RowsArePlain : Type 0 where
+pub record RowsAreTaken : Type 0 where
   pub too_long : (topology : DeclaredTopology) (file bytes : List ℕ) → 16777216 < length bytes
       → rows_in topology file bytes ≡ Err (not_taken file (codes "too-long"))
   pub faulty : (topology : DeclaredTopology) (file bytes : List ℕ) (fault : CertFault) → length bytes ≤ 16777216
@@ -63,7 +64,7 @@ pub record RowsArePlain : Type 0 where
       → rows_in topology file bytes ≡ Ok rows
 
 -- the releases of a schedule for the senders of a network, of at most 33554432 bytes
-pub record SchedulesArePlain : Type 0 where
+pub record SchedulesAreTaken : Type 0 where
   pub too_long : (network : DeclaredNetwork) (file bytes : List ℕ) → 33554432 < length bytes
       → releases_in network file bytes ≡ Err (not_taken file (codes "too-long"))
   pub faulty : (network : DeclaredNetwork) (file bytes : List ℕ) (fault : ScheduleFault) → length bytes ≤ 33554432
@@ -74,7 +75,7 @@ pub record SchedulesArePlain : Type 0 where
       → releases_in network file bytes ≡ Ok releases
 
 -- the requests over a network, of at most 16777216 bytes
-pub record RequestFilesArePlain : Type 0 where
+pub record RequestFilesAreTaken : Type 0 where
   pub too_long : (network : DeclaredNetwork) (file bytes : List ℕ) → 16777216 < length bytes
       → requests_in network file bytes ≡ Err (not_taken file (codes "too-long"))
   pub faulty : (network : DeclaredNetwork) (file bytes : List ℕ) (fault : RequestFault) → length bytes ≤ 16777216
@@ -84,22 +85,21 @@ pub record RequestFilesArePlain : Type 0 where
       → requests_of network bytes ≡ Ok asked
       → requests_in network file bytes ≡ Ok asked
 
--- what a capture tells that a station sent: its records are read, and then joined to the streams of the station
-pub record CapturesArePlain : Type 0 where
+-- of a capture its records, or the line of their first fault; and where they are not taken, no traffic is, with the
+-- same line
+pub record CapturesAreTaken : Type 0 where
+  pub faulty : (file bytes : List ℕ) (fault : RecordsFault) → captures.records_in bytes ≡ Err fault
+      → records_in file bytes ≡ Err (not_taken file (records_fault_text fault))
+  pub declared : (file bytes : List ℕ) (records : List Record) → captures.records_in bytes ≡ Ok records
+      → records_in file bytes ≡ Ok records
   pub unread : (network : DeclaredNetwork) (station : ℕ) (file bytes : List ℕ) (due : Answer)
       → records_in file bytes ≡ Err due
       → traffic_in network station file bytes ≡ Err due
-  pub faulty : (network : DeclaredNetwork) (station : ℕ) (file bytes : List ℕ) (records : List Record)
-      (fault : JoinFault) → records_in file bytes ≡ Ok records → traffic_of network station records ≡ Err fault
-      → traffic_in network station file bytes ≡ Err (not_taken file (captures.fault_text fault))
-  pub joined : (network : DeclaredNetwork) (station : ℕ) (file bytes : List ℕ) (records : List Record)
-      (traffic : Traffic) → records_in file bytes ≡ Ok records → traffic_of network station records ≡ Ok traffic
-      → traffic_in network station file bytes ≡ Ok traffic
 
-pub record FilesArePlain : Type 0 where
-  pub shapes : ShapesArePlain
-  pub networks : NetworksArePlain
-  pub rows : RowsArePlain
-  pub schedules : SchedulesArePlain
-  pub requests : RequestFilesArePlain
-  pub captures : CapturesArePlain
+pub record InputsAreTaken : Type 0 where
+  pub shapes : ShapesAreTaken
+  pub networks : NetworksAreTaken
+  pub rows : RowsAreTaken
+  pub schedules : SchedulesAreTaken
+  pub requests : RequestFilesAreTaken
+  pub captures : CapturesAreTaken

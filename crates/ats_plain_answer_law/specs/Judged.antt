@@ -11,13 +11,11 @@ use Rattle.ats_conform.specs.Releases.{AllKeepBuckets}
 use Rattle.ats_fit.specs.Measured.{AreMeasured}
 use Rattle.ats_fit.specs.declared.measured.Measured.{Measured}
 use Rattle.ats_fit_text.specs.Text.{fit_text}
-use Rattle.ats_gen.specs.declared.fault.GenFault.TheVariants.{Limit, NoStream}
 use Rattle.ats_command_input.specs.Answer.{Answer}
 use Rattle.ats_command_input.specs.Input.{network_in, releases_in, traffic_in}
 use Rattle.ats_command_input.specs.Station.{station_in}
 use Rattle.ats_command_input.specs.declared.status.Status.TheVariants.{Done}
 use Rattle.ats_command_due.specs.Due.{IsConformAnswer, IsFitAnswer, IsSettingsAnswer, releases_answer}
-use Rattle.ats_command_due.specs.Generated.{gen_fault_text}
 use Rattle.ats_plain_answer_law.specs.Lines.{done_with, refused_for}
 
 -- Which answers there are to each command that reads releases without running them, and to `settings`, case by case.
@@ -25,7 +23,7 @@ use Rattle.ats_plain_answer_law.specs.Lines.{done_with, refused_for}
 -- `conform NET SCHEDULE`: done with the number of releases where every node keeps its buckets, and refused with the
 -- first frame by which one does not: for its size, or for its bucket, behind the frame from which on it exceeds that
 -- most
-pub record ConformIsPlain : Type 0 where
+pub record ConformIsAnswered : Type 0 where
   pub not_taken : (net schedule net_bytes schedule_bytes : List ℕ) (answer due : Answer)
       → network_in net net_bytes ≡ Err due
       → IsConformAnswer net schedule net_bytes schedule_bytes answer ↔ (answer ≡ due)
@@ -44,7 +42,7 @@ pub record ConformIsPlain : Type 0 where
       × (answer ≡ refused_for (codes "bucket " ++ decimal since ++ codes " " ++ decimal frame)))))
 
 -- `fit NET SCHEDULE`: what is measured of the releases, whatever they need
-pub record FitIsPlain : Type 0 where
+pub record FitIsAnswered : Type 0 where
   pub not_taken : (net schedule net_bytes schedule_bytes : List ℕ) (answer due : Answer)
       → network_in net net_bytes ≡ Err due
       → IsFitAnswer net schedule net_bytes schedule_bytes answer ↔ (answer ≡ due)
@@ -59,7 +57,7 @@ pub record FitIsPlain : Type 0 where
       × (answer.text ≡ fit_text network releases measured))
 
 -- `releases NET STATION FILE`: the schedule of what `capture` runs
-pub record ReleasesArePlain : Type 0 where
+pub record ReleasesAreAnswered : Type 0 where
   pub not_taken : (net station file net_bytes file_bytes : List ℕ) (due : Answer) → network_in net net_bytes ≡ Err due
       → releases_answer net station file net_bytes file_bytes ≡ due
   pub no_station : (net station file net_bytes file_bytes : List ℕ) (network : DeclaredNetwork) (due : Answer)
@@ -75,7 +73,7 @@ pub record ReleasesArePlain : Type 0 where
       → releases_answer net station file net_bytes file_bytes ≡ done_with (schedule_text network traffic.releases)
 
 -- `settings NET`: what to set in each bridge, never refused
-pub record SettingsArePlain : Type 0 where
+pub record SettingsAreAnswered : Type 0 where
   pub not_taken : (net bytes : List ℕ) (answer due : Answer) → network_in net bytes ≡ Err due
       → IsSettingsAnswer net bytes answer ↔ (answer ≡ due)
   pub done : (net bytes : List ℕ) (network : DeclaredNetwork) (answer : Answer) → network_in net bytes ≡ Ok network
@@ -83,14 +81,8 @@ pub record SettingsArePlain : Type 0 where
       ↔ ((settings : List Setting) × AreSettings network settings
       × (answer ≡ done_with (settings_text network settings)))
 
--- why no releases are made, as `generate` tells it
-pub record NoneMadeIsPlain : Type 0 where
-  pub no_stream : gen_fault_text NoStream ≡ codes "no-stream"
-  pub limit : gen_fault_text Limit ≡ codes "limit"
-
-pub record JudgedAnswersArePlain : Type 0 where
-  pub conform : ConformIsPlain
-  pub fit : FitIsPlain
-  pub releases : ReleasesArePlain
-  pub settings : SettingsArePlain
-  pub none_made : NoneMadeIsPlain
+pub record JudgingIsAnswered : Type 0 where
+  pub conform : ConformIsAnswered
+  pub fit : FitIsAnswered
+  pub releases : ReleasesAreAnswered
+  pub settings : SettingsAreAnswered

@@ -9,7 +9,7 @@ use Rattle.ats_plain_answer_law.specs.Lines.{refused_for}
 
 -- a word of a call stands for the station, the port or the stream with this name; where none has it, the call is
 -- refused with the line `refused station WORD`, and so on
-pub record NamedArePlain : Type 0 where
+pub record NamesAreAnswered : Type 0 where
   pub station : (topology : DeclaredTopology) (word : List ℕ) (place : ℕ) → station_named topology word ≡ Some place
       → station_in topology word ≡ Ok place
   pub no_station : (topology : DeclaredTopology) (word : List ℕ) → station_named topology word ≡ None

@@ -33,14 +33,15 @@ use Rattle.ats_command_input.specs.Stream.{stream_in}
 use Rattle.ats_command_input.specs.declared.order.Order.{Order}
 use Rattle.ats_command_input.specs.declared.order.Order.TheVariants.{Early}
 use Rattle.ats_command_input.specs.declared.status.Status.TheVariants.{Done}
-use Rattle.ats_command_due.specs.Due.{IsCaptureAnswer, IsGenerateAnswer, IsPeaksAnswer, IsRecordAnswer}
-use Rattle.ats_command_due.specs.Due.{IsReplayAnswer, IsWitnessAnswer}
+use Rattle.ats_command_due.specs.Due.{IsCaptureAnswer, IsGenerateAnswer, IsPeaksAnswer, IsRecordAnswer, IsReplayAnswer}
+use Rattle.ats_command_due.specs.Due.{IsWitnessAnswer}
 use Rattle.ats_command_due.specs.Generated.{gen_fault_text, least_sums}
 use Rattle.ats_command_due.specs.Witnessed.{least_sum}
 use Rattle.ats_plain_answer_law.specs.Lines.{refused_for}
 
 -- Which answers there are to each command that runs frames, case by case. What is not taken has its own line, and the
--- command has no other answer; else the command is done with the text of some run, of which there may be several.
+-- command has no other answer; nor has it one where it is refused; else it is done with the text of some run, of which
+-- there may be several.
 
 -- a run by the key and the wait of an order, with exactly these releases
 abbrev pub RunsExactly : Order → DeclaredNetwork → List Release → List Travel → Type 0
@@ -48,7 +49,7 @@ RunsExactly order network releases run =
     IsRunBy (key_of order) (wait_of order) network run × (releases_of run ≡ releases)
 
 -- `replay NET SCHEDULE ORDER`: the journeys of a run in this order
-pub record ReplayIsPlain : Type 0 where
+pub record ReplayIsAnswered : Type 0 where
   pub not_taken : (net schedule net_bytes schedule_bytes : List ℕ) (order : Order) (answer due : Answer)
       → network_in net net_bytes ≡ Err due
       → IsReplayAnswer net schedule order net_bytes schedule_bytes answer ↔ (answer ≡ due)
@@ -65,7 +66,7 @@ pub record ReplayIsPlain : Type 0 where
 
 -- `capture NET STATION FILE ORDER`: the same of what the station sent by the capture, and then the counts of its
 -- records
-pub record CaptureIsPlain : Type 0 where
+pub record CaptureIsAnswered : Type 0 where
   pub not_taken : (net station file net_bytes file_bytes : List ℕ) (order : Order) (answer due : Answer)
       → network_in net net_bytes ≡ Err due
       → IsCaptureAnswer net station file order net_bytes file_bytes answer ↔ (answer ≡ due)
@@ -84,7 +85,7 @@ pub record CaptureIsPlain : Type 0 where
       × (answer.text ≡ departures_text network run ++ counts_text traffic))
 
 -- `record NET SCHEDULE ORDER PORT`: the capture of the port in a run in this order
-pub record RecordIsPlain : Type 0 where
+pub record RecordIsAnswered : Type 0 where
   pub not_taken : (net schedule port net_bytes schedule_bytes : List ℕ) (order : Order) (answer due : Answer)
       → network_in net net_bytes ≡ Err due
       → IsRecordAnswer net schedule order port net_bytes schedule_bytes answer ↔ (answer ≡ due)
@@ -104,7 +105,7 @@ pub record RecordIsPlain : Type 0 where
 
 -- `buffers NET CERT SCHEDULE ORDER`: each row's buffer beside its peak in a run in this order. All three files are
 -- taken before the rows are judged
-pub record PeaksArePlain : Type 0 where
+pub record PeaksAreAnswered : Type 0 where
   pub not_taken : (net certificate schedule net_bytes certificate_bytes schedule_bytes : List ℕ) (order : Order)
       (answer due : Answer) → network_in net net_bytes ≡ Err due
       → IsPeaksAnswer net certificate schedule order net_bytes certificate_bytes schedule_bytes answer
@@ -139,7 +140,7 @@ pub record PeaksArePlain : Type 0 where
 
 -- `generate NET SEED COUNT`: what came of each sender's frames in a run of the made releases in the order `early`,
 -- beside the least sums, or why none are made
-pub record GenerateIsPlain : Type 0 where
+pub record GenerateIsAnswered : Type 0 where
   pub not_taken : (net bytes : List ℕ) (seed count : ℕ) (answer due : Answer) → network_in net bytes ≡ Err due
       → IsGenerateAnswer net seed count bytes answer ↔ (answer ≡ due)
   pub refused : (net bytes : List ℕ) (seed count : ℕ) (network : DeclaredNetwork) (fault : GenFault) (answer : Answer)
@@ -154,7 +155,7 @@ pub record GenerateIsPlain : Type 0 where
 
 -- `witness NET NAME`: for each listener of the stream what is found of it, beside its least sum. The stream is looked
 -- up before the network is judged
-pub record WitnessIsPlain : Type 0 where
+pub record WitnessIsAnswered : Type 0 where
   pub not_taken : (net name bytes : List ℕ) (answer due : Answer) → network_in net bytes ≡ Err due
       → IsWitnessAnswer net name bytes answer ↔ (answer ≡ due)
   pub no_stream : (net name bytes : List ℕ) (network : DeclaredNetwork) (answer due : Answer)
@@ -171,10 +172,10 @@ pub record WitnessIsPlain : Type 0 where
       × AllZip (AreFound network stream) (range_with_len 0 (listener_count (sender_at network stream))) founds
       × (answer.text ≡ witness_text network stream founds (least_sum network stream)))
 
-pub record RunAnswersArePlain : Type 0 where
-  pub replay : ReplayIsPlain
-  pub capture : CaptureIsPlain
-  pub of_port : RecordIsPlain
-  pub peaks : PeaksArePlain
-  pub generate : GenerateIsPlain
-  pub witness : WitnessIsPlain
+pub record RunsAreAnswered : Type 0 where
+  pub replay : ReplayIsAnswered
+  pub capture : CaptureIsAnswered
+  pub of_port : RecordIsAnswered
+  pub peaks : PeaksAreAnswered
+  pub generate : GenerateIsAnswered
+  pub witness : WitnessIsAnswered

@@ -8,10 +8,9 @@ use Rattle.ats_command_input.specs.Making.{count_named, seed_named}
 use Rattle.ats_command_input.specs.Order.{order_named}
 use Rattle.ats_command_input.specs.declared.order.Order.{Order}
 
--- what each verb with as many words as it takes is, byte for byte, and that nothing else is a command: no words, a verb
--- alone, another word in its place, fewer words or more
+-- what each verb with as many words as it takes is, byte for byte, and that nothing else is a command: a verb alone,
+-- another word in its place, fewer words or more
 pub record VerbsAreRead : Type 0 where
-  pub none : command_of [] ≡ Unknown
   pub alone : (verb : List ℕ) → command_of (verb ∷ []) ≡ Unknown
   pub one : (verb file : List ℕ) → command_of (verb ∷ file ∷ [])
       ≡ (if bytes_eq verb (codes "shape") then Shape file
@@ -46,7 +45,8 @@ pub record VerbsAreRead : Type 0 where
       else Unknown)
   pub more : (a b c d e f : List ℕ) (words : List (List ℕ)) → command_of (a ∷ b ∷ c ∷ d ∷ e ∷ f ∷ words) ≡ Unknown
 
--- where a word is to name an order, or a number, and names none, there is no command
+-- where a word is to name an order, or two words numbers, there is the command with what they name; and where one names
+-- none, there is none
 pub record OrdersAreAsked : Type 0 where
   pub replay : (net file : List ℕ) (order : Order) → replay_in net file (Some order) ≡ Replay net file order
   pub no_replay : (net file : List ℕ) → replay_in net file None ≡ Unknown
@@ -64,6 +64,6 @@ pub record OrdersAreAsked : Type 0 where
   pub no_seed : (net : List ℕ) (count : ℕ) → generate_in net None (Some count) ≡ Unknown
   pub neither : (net : List ℕ) → generate_in net None None ≡ Unknown
 
-pub record VerbsArePlain : Type 0 where
+pub record VerbsAreNamed : Type 0 where
   pub read : VerbsAreRead
   pub orders : OrdersAreAsked

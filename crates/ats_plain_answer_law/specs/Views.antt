@@ -2,15 +2,15 @@ use Rattle.std.specs.Prelude.{◌≡◌, ℕ, List}
 use Rattle.std.specs.Borrow.{Bor}
 use Rattle.ats_command_input.specs.Command as table
 use Rattle.ats_command_input.specs.Named.{view}
-use Rattle.ats_command_input.specs.declared.command.Command.TheVariants.{Admit, Bound, Buffers, Capture, Check}
-use Rattle.ats_command_input.specs.declared.command.Command.TheVariants.{Conform, Explain, Fit, Generate, LrqBound}
-use Rattle.ats_command_input.specs.declared.command.Command.TheVariants.{LrqCheck, LrqShape, Peaks, Record, Releases}
-use Rattle.ats_command_input.specs.declared.command.Command.TheVariants.{Replay, Settings, Shape, Show, Witness}
+use Rattle.ats_command_input.specs.declared.command.Command.TheVariants.{Admit, Bound, Buffers, Capture, Check, Conform}
+use Rattle.ats_command_input.specs.declared.command.Command.TheVariants.{Explain, Fit, Generate, LrqBound, LrqCheck}
+use Rattle.ats_command_input.specs.declared.command.Command.TheVariants.{LrqShape, Peaks, Record, Releases, Replay}
+use Rattle.ats_command_input.specs.declared.command.Command.TheVariants.{Settings, Shape, Show, Witness}
 use Rattle.ats_command_input.specs.declared.making.FrameCount.{FrameCount}
 use Rattle.ats_command_input.specs.declared.order.Order.{Order}
 
 -- the program's value of a command stands for the line of the table with its words, each in its place
-pub record ViewsArePlain : Type 0 where
+pub record ViewsAreNamed : Type 0 where
   pub shape : (file : Bor (List ℕ)) → view (Shape file) ≡ table.Shape file.now
   pub show : (net : Bor (List ℕ)) → view (Show net) ≡ table.Show net.now
   pub bound : (net : Bor (List ℕ)) → view (Bound net) ≡ table.Bound net.now

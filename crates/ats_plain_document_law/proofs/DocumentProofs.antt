@@ -15,13 +15,13 @@ use Rattle.ats_network_table.specs.declared.table.Table.TheVariants.{Station, St
 use Rattle.ats_network_toml.specs.Document.{DeclaredDocument, DeclaredLinkLocal, DeclaredLinkLocalFlow}
 use Rattle.ats_network_toml.specs.Entries.{bridge_in, flow_in, link_in, link_local_flow_in, link_local_in, station_in}
 use Rattle.ats_network_toml.specs.Entries.{stream_in}
-use Rattle.ats_network_toml.specs.Reading.{Arrays, arrays_in, arrays_read, entries_from, entries_within}
-use Rattle.ats_network_toml.specs.Reading.{senders_for, tables_at}
+use Rattle.ats_network_toml.specs.Reading.{Arrays, arrays_in, arrays_read, entries_from, entries_within, senders_for}
+use Rattle.ats_network_toml.specs.Reading.{tables_at}
 use Rattle.ats_network_toml.specs.declared.entries.BridgeEntry.{BridgeEntry}
 use Rattle.ats_network_file.proofs.Steps.{both}
-use Rattle.ats_plain_document_law.specs.Documents.{ArraysAreRead, DocumentsArePlain, DocumentsAreRead, bridges_of}
-use Rattle.ats_plain_document_law.specs.Documents.{flows_of, link_local_flows_of, link_locals_of, links_of}
-use Rattle.ats_plain_document_law.specs.Documents.{stations_of, streams_of}
+use Rattle.ats_plain_document_law.specs.Documents.{ArraysAreRead, DocumentsAreDeclared, DocumentsAreRead, bridges_of}
+use Rattle.ats_plain_document_law.specs.Documents.{flows_of, link_local_flows_of, link_locals_of, links_of, stations_of}
+use Rattle.ats_plain_document_law.specs.Documents.{streams_of}
 use Rattle.ats_plain_document_law.specs.Faults.{fault_in, first_fault}
 use Rattle.ats_plain_document_law.proofs.Steps.{Told, next, read_only, refused_by, then_ok}
 
@@ -208,5 +208,5 @@ documents = record {
   tree = λ tree. refl;
 }
 
-pub documents_are_plain : DocumentsArePlain
-documents_are_plain = record { arrays = arrays; documents = documents }
+pub documents_are_declared : DocumentsAreDeclared
+documents_are_declared = record { arrays = arrays; documents = documents }

@@ -11,9 +11,9 @@ use Rattle.ats_network_toml.specs.declared.entries.BridgeEntry.{BridgeEntry}
 use Rattle.ats_network_toml.specs.declared.entries.LinkEntry.{LinkEntry}
 use Rattle.ats_network_toml.specs.declared.entries.StationEntry.{StationEntry}
 use Rattle.ats_network_toml.specs.declared.entries.StreamNumbers.{StreamNumbers}
-use Rattle.ats_plain_document_law.specs.Entries.{BridgesAreRead, EntriesArePlain, FlowsAreRead, LinkLocalFlowsAreRead}
-use Rattle.ats_plain_document_law.specs.Entries.{LinkLocalsAreRead, LinksAreRead, NumbersAreRead, StationsAreRead}
-use Rattle.ats_plain_document_law.specs.Entries.{StreamsAreRead}
+use Rattle.ats_plain_document_law.specs.Entries.{BridgesAreRead, EntriesAreDeclared, FlowsAreRead}
+use Rattle.ats_plain_document_law.specs.Entries.{LinkLocalFlowsAreRead, LinkLocalsAreRead, LinksAreRead, NumbersAreRead}
+use Rattle.ats_plain_document_law.specs.Entries.{StationsAreRead, StreamsAreRead}
 use Rattle.ats_plain_document_law.specs.Faults.{fault_in, first_fault}
 use Rattle.ats_plain_document_law.proofs.Steps.{Told, next, read_only, refused_by, then_ok}
 
@@ -316,8 +316,8 @@ link_local_flows = record {
       (link_local_flow_told e) fault;
 }
 
-pub entries_are_plain : EntriesArePlain
-entries_are_plain = record {
+pub entries_are_declared : EntriesAreDeclared
+entries_are_declared = record {
   stations = stations;
   bridges = bridges;
   links = links;

@@ -1,46 +1,10 @@
 use Rattle.std.proofs.Common.{refl}
 use Rattle.ats_network_table.specs.Walk.{Entry}
-use Rattle.ats_plain_document_law.specs.Keys.{KeysArePlain, KeysAreWritten, OthersAreDueBeside, SomeAreAlwaysDue}
+use Rattle.ats_plain_document_law.specs.Keys.{KeysAreAlwaysDue, KeysAreDue, KeysAreNeverDue}
 
--- How keys are written, and which have to stand in a table.
+-- Which keys have to stand in a table that has them.
 
-written : KeysAreWritten
-written = record {
-  format = refl;
-  station = refl;
-  bridge = refl;
-  link = refl;
-  stream = refl;
-  link_local = refl;
-  flow = refl;
-  link_local_flow = refl;
-  name = refl;
-  a = refl;
-  b = refl;
-  mbps = refl;
-  propagation = refl;
-  processing = refl;
-  processing_min = refl;
-  processing_max = refl;
-  residence = refl;
-  clock_ppm = refl;
-  clock_step = refl;
-  path = refl;
-  paths = refl;
-  from = refl;
-  to = refl;
-  class = refl;
-  classes = refl;
-  rate = refl;
-  burst = refl;
-  min_octets = refl;
-  max_octets = refl;
-  deadline = refl;
-  address = refl;
-  vlan = refl;
-}
-
-always : (e : Entry) → SomeAreAlwaysDue e
+always : (e : Entry) → KeysAreAlwaysDue e
 always e = record {
   format = refl;
   name = refl;
@@ -56,6 +20,10 @@ always e = record {
   burst = refl;
   min_octets = refl;
   max_octets = refl;
+}
+
+never : (e : Entry) → KeysAreNeverDue e
+never e = record {
   station = refl;
   bridge = refl;
   link = refl;
@@ -63,22 +31,12 @@ always e = record {
   link_local = refl;
   flow = refl;
   link_local_flow = refl;
+  paths = refl;
+  classes = refl;
   deadline = refl;
   clock_ppm = refl;
   clock_step = refl;
 }
 
-beside : (e : Entry) → OthersAreDueBeside e
-beside e = record {
-  path = refl;
-  paths = refl;
-  from = refl;
-  to = refl;
-  class = refl;
-  classes = refl;
-  address = refl;
-  vlan = refl;
-}
-
-pub keys_are_plain : KeysArePlain
-keys_are_plain = record { written = written; always = always; beside = beside }
+pub keys_are_due : KeysAreDue
+keys_are_due = record { always = always; never = never }

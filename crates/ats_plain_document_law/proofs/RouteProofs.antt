@@ -10,7 +10,7 @@ use Rattle.ats_network.specs.Shortest.{shortest_of}
 use Rattle.ats_route_tree.specs.Legs.{DeclaredLegs}
 use Rattle.ats_network_toml.specs.Document.{DeclaredRoute, ends, path}
 use Rattle.ats_network_file.specs.Routes.{legs_of, legs_with, port_to, ports_of, ports_of_each, ports_onward}
-use Rattle.ats_plain_document_law.specs.Routes.{LeadBy, PortsLeadOnward, RoutesArePlain}
+use Rattle.ats_plain_document_law.specs.Routes.{LeadBy, PortsLeadOnward, RoutesAreDeclared}
 
 -- Which ports a route has, and which legs its routes.
 
@@ -118,8 +118,8 @@ legs t routes l = (
   (λ is. then_some (ports_of_each t routes) (legs_with t) l (is.0, each_had t routes is.0 is.1, is.2)),
 )
 
-pub routes_are_plain : RoutesArePlain
-routes_are_plain = record {
+pub routes_are_declared : RoutesAreDeclared
+routes_are_declared = record {
   onward = onward;
   ports = λ t route ports. ((λ h. by_route t route ports h), (λ is. route_by t route ports is));
   legs = legs;

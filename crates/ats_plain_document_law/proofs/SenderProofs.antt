@@ -1,5 +1,4 @@
-use Rattle.std.proofs.Common.{◌≡◌, ◌∙◌, ℕ, ◌+◌, Bool, List, [], ◌∷◌, ◌++◌, map, flat_map, Option}
-use Rattle.std.proofs.Common.{Result, refl, ap, ap₂}
+use Rattle.std.proofs.Common.{◌≡◌, ◌∙◌, ℕ, ◌+◌, Bool, List, [], ◌∷◌, ◌++◌, map, flat_map, Option, Result, refl, ap, ap₂}
 use Rattle.std.specs.List.{enumerate_from}
 use Rattle.ats_num.specs.Failure.{◌>>=◌, ok_where, or_fault, unless}
 use Rattle.ats_streams.specs.Branches.{routes_of}
@@ -14,15 +13,14 @@ use Rattle.ats_network_table.specs.declared.format.Format.{Format}
 use Rattle.ats_network_toml.specs.Document as file
 use Rattle.ats_network_file.specs.LinkLocal.{flows_at, streams_at}
 use Rattle.ats_network_file.specs.Routes.{is_valid, may_declare}
-use Rattle.ats_network_file.specs.Senders.{alone, flow_over, placed, refusal_of}
-use Rattle.ats_network_file.specs.Senders.{stream_fault_over, stream_over}
+use Rattle.ats_network_file.specs.Senders.{alone, flow_over, placed, refusal_of, stream_fault_over, stream_over}
 use Rattle.ats_network_file.specs.declared.fault.NetFault.{NetFault}
 use Rattle.ats_network_file.specs.declared.fault.NetFault.TheVariants.{BadPath, Sender}
 use Rattle.ats_network_file.specs.declared.senders.Place.{Place}
 use Rattle.ats_network_file.specs.declared.senders.SenderTable.{SenderTable}
 use Rattle.ats_network_file.specs.declared.senders.SenderTable.TheVariants.{Flow, LinkLocal, LinkLocalFlow, Stream}
-use Rattle.ats_plain_document_law.specs.Senders.{AddedInTurn, FlowsAreAdded, RefusalsAreTold, SendersAreInOrder}
-use Rattle.ats_plain_document_law.specs.Senders.{SendersAreOfEntries, SendersArePlain, StreamsAreAdded}
+use Rattle.ats_plain_document_law.specs.Senders.{AddedInTurn, FlowsAreAdded, RefusalsAreTold, SendersAreDeclared}
+use Rattle.ats_plain_document_law.specs.Senders.{SendersAreInOrder, SendersAreOfEntries, StreamsAreAdded}
 
 -- What senders are of their entries, in which order they come, and how each is added.
 
@@ -175,8 +173,8 @@ in_turn E = record {
   more = λ added network e entries. refl;
 }
 
-pub senders_are_plain : SendersArePlain
-senders_are_plain = record {
+pub senders_are_declared : SendersAreDeclared
+senders_are_declared = record {
   entries = entries;
   order = order;
   streams = streams;

@@ -1,5 +1,5 @@
-use Rattle.std.proofs.Common.{◌≡◌, ◌∙◌, ◌↔◌, ℕ, zero, suc, ◌≤◌, Bool, true, false, List, Option, Some, None}
-use Rattle.std.proofs.Common.{Result, Ok, Err, refl, ap, ap₂, arith}
+use Rattle.std.proofs.Common.{◌≡◌, ◌∙◌, ◌↔◌, ℕ, zero, suc, ◌≤◌, Bool, true, false, List, Option, Some, None, Result, Ok}
+use Rattle.std.proofs.Common.{Err, refl, ap, ap₂, arith}
 use Rattle.std.specs.Prelude.{IsTrue, find, not, option_and_then, ◌||◌}
 use Rattle.std.specs.List.{list_any}
 use Rattle.toml.specs.Data.{Data, Members, as_integer, get_member, member, no_members}
@@ -18,28 +18,16 @@ use Rattle.ats_network_table.specs.declared.table.Table.{Table}
 use Rattle.ats_network_table.specs.declared.table.Table.TheVariants.{Bridge, Flow, Link, LinkLocal, LinkLocalFlow}
 use Rattle.ats_network_table.specs.declared.table.Table.TheVariants.{Station, Stream, Top}
 use Rattle.ats_network_file.proofs.Steps.{or_fault_ok}
-use Rattle.ats_plain_document_law.specs.Tables.{FormsAreJudged, SomeMayHaveMore, TablesArePlain, TablesHaveKeys}
+use Rattle.ats_plain_document_law.specs.Tables.{FormsAreJudged, SomeMayHaveMore, TablesAreDeclared, TablesHaveKeys}
 use Rattle.ats_plain_document_law.specs.Tables.{TopsAreRead, keys_told, number_of}
 use Rattle.ats_plain_document_law.proofs.ValueProofs.{ranged_only}
 
--- Which keys each table has, and when it is well formed.
+-- What tables may have, and when they are well formed.
 
 keys : TablesHaveKeys
 keys = record {
-  top_one = refl;
   top_two = refl;
-  top_three = refl;
-  station = λ f. refl;
-  bridge_one = refl;
-  bridge_two = refl;
-  bridge_three = refl;
-  link = λ f. refl;
-  stream_one = refl;
   stream_two = refl;
-  stream_three = refl;
-  link_local = λ f. refl;
-  flow = λ f. refl;
-  link_local_flow = λ f. refl;
   least_one = refl;
   least_two = refl;
   least_three = refl;
@@ -169,5 +157,5 @@ tops = record {
   not_given = λ top fault. fault_read fault (whole_at top key.Format 1 3);
 }
 
-pub tables_are_plain : TablesArePlain
-tables_are_plain = record { keys = keys; more = more; forms = forms; tops = tops }
+pub tables_are_declared : TablesAreDeclared
+tables_are_declared = record { keys = keys; more = more; forms = forms; tops = tops }

@@ -5,7 +5,7 @@ use Rattle.std.specs.List.{AllZip}
 use Rattle.std.proofs.lemmas.Bool.{le-leb, leb-true}
 use Rattle.toml.specs.Data.{Data, Items, Members, as_array, as_integer, item, no_items}
 use Rattle.ats_network_table.specs.Kinds.{all_in, in_front, ranged, some_where}
-use Rattle.ats_plain_document_law.specs.Values.{ListsAreRead, ValuesArePlain, WholesAreRanged, items_told}
+use Rattle.ats_plain_document_law.specs.Values.{ListsAreRead, ValuesAreDeclared, WholesAreRanged, items_told}
 
 -- Which values are whole numbers of a range, and which are lists.
 
@@ -76,8 +76,8 @@ lists A kind d xs = (
   (λ is. ap (option_and_then (all_in kind)) is.1 ∙ of_each kind is.0 xs is.2),
 )
 
-pub values_are_plain : ValuesArePlain
-values_are_plain = record {
+pub values_are_declared : ValuesAreDeclared
+values_are_declared = record {
   wholes = wholes;
   numbers = lists ℕ;
   names = lists (List ℕ);

@@ -16,7 +16,8 @@ use Rattle.ats_network_toml.specs.declared.entries.LinkEntry.{LinkEntry}
 use Rattle.ats_network_toml.specs.declared.entries.StationEntry.{StationEntry}
 use Rattle.ats_plain_document_law.specs.Faults.{fault_in, first_fault}
 
--- the top table is well formed, gives a format, and has an array of tables with each key that stands there
+-- the arrays of a file are read where its top table is well formed, gives a format, and has tables with each key of an
+-- array; and else the fault is the first of those of all these, in this order
 pub record ArraysAreRead : Type 0 where
   pub read : (top : Entry) (a : Arrays) → arrays_in top ≡ Ok a
       ↔ ((formed top ≡ Ok tt) × (format_at top ≡ Ok a.format) × (tables_at top key.Station ≡ Ok a.stations)
@@ -55,7 +56,8 @@ abbrev pub link_local_flows_of : Arrays → Result (List DeclaredLinkLocalFlow) 
 link_local_flows_of a = entries_within link_local_flow_in a.format LinkLocalFlow 4096
     (length a.flows + length a.link_local_flows * (2 * length a.links)) a.link_local_flows
 
--- a document has its format and the entries of each array; and its fault is the first in the arrays
+-- a document has the format and the entries of each array, and its fault is the first in the arrays; that of a file is
+-- read from the arrays of its top table
 pub record DocumentsAreRead : Type 0 where
   pub read : (a : Arrays) (d : DeclaredDocument) → arrays_read a ≡ Ok d
       ↔ ((a.format ≡ d.format) × (stations_of a ≡ Ok d.stations) × (bridges_of a ≡ Ok d.bridges)
@@ -67,6 +69,6 @@ pub record DocumentsAreRead : Type 0 where
       ∷ fault_in (link_local_flows_of a) ∷ []) ≡ Some fault)
   pub tree : (tree : Members) → document_in tree ≡ (arrays_in (top_of tree) >>= arrays_read)
 
-pub record DocumentsArePlain : Type 0 where
+pub record DocumentsAreDeclared : Type 0 where
   pub arrays : ArraysAreRead
   pub documents : DocumentsAreRead

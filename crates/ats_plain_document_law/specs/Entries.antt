@@ -105,7 +105,7 @@ pub record LinkLocalFlowsAreRead : Type 0 where
       ↔ (first_fault (fault_in (formed e) ∷ fault_in (short_name_at e key.Name)
       ∷ fault_in (long_at e key.MaxOctets) ∷ []) ≡ Some fault)
 
-pub record EntriesArePlain : Type 0 where
+pub record EntriesAreDeclared : Type 0 where
   pub stations : StationsAreRead
   pub bridges : BridgesAreRead
   pub links : LinksAreRead

@@ -1,22 +1,16 @@
-use Rattle.std.specs.Prelude.{◌≡◌, ℕ, List, [], Some, None, Ok, Err}
+use Rattle.std.specs.Prelude.{◌≡◌, [], None}
 use Rattle.ats_num.specs.Failure.{◌>>=◌}
 use Rattle.ats_topology.specs.Faults.{topology_fault}
 use Rattle.ats_topology.specs.Topology.{topology_of}
-use Rattle.ats_topology.specs.declared.fault.TopologyFault.{TopologyFault}
 use Rattle.ats_network.specs.Network.{network_within}
-use Rattle.ats_network_table.specs.declared.fault.DocumentFault.{DocumentFault}
 use Rattle.ats_network_table.specs.declared.format.Format.TheVariants.{One, Three, Two}
 use Rattle.ats_network_toml.specs.Document.{DeclaredDocument}
-use Rattle.ats_network_toml.specs.Reading.{document_of}
-use Rattle.ats_network_file.specs.Reading.{links_of, most_ports_of, network_in, network_of, nodes_of}
+use Rattle.ats_network_file.specs.Reading.{links_of, most_ports_of, network_in, nodes_of}
 use Rattle.ats_network_file.specs.Senders.{all_added, flow_added, flows_in, stream_added, streams_in}
-use Rattle.ats_network_file.specs.declared.fault.NetFault.TheVariants.{Form, Topology}
 
--- a document whose nodes and links have a fault declares no network; else its network is that topology with no senders,
--- to which its streams are added in turn, and then its flows. A route may have 16 ports, and in format 3 it may have 64
-pub record DocumentsDeclare : Type 0 where
-  pub no_topology : (d : DeclaredDocument) (fault : TopologyFault)
-      → topology_fault (nodes_of d) (links_of d) ≡ Some fault → network_in d ≡ Err (Topology fault)
+-- where the nodes and links of a document have no fault, its network is their topology with no senders, to which its
+-- streams are added in turn, and then its flows. A route may have 16 ports, and in format 3 it may have 64
+pub record NetworksAreDeclared : Type 0 where
   pub topology : (d : DeclaredDocument) → topology_fault (nodes_of d) (links_of d) ≡ None → network_in d
       ≡ (all_added (stream_added d.format)
       (network_within (topology_of (nodes_of d) (links_of d)) (most_ports_of d.format) [] [])
@@ -26,13 +20,3 @@ pub record DocumentsDeclare : Type 0 where
   pub ports_one : most_ports_of One ≡ 16
   pub ports_two : most_ports_of Two ≡ 16
   pub ports_three : most_ports_of Three ≡ 64
-
--- a text declares the network of its document, and where it has none it tells the fault of its form
-pub record TextsDeclare : Type 0 where
-  pub document : (text : List ℕ) (d : DeclaredDocument) → document_of text ≡ Ok d → network_of text ≡ network_in d
-  pub no_document : (text : List ℕ) (fault : DocumentFault) → document_of text ≡ Err fault
-      → network_of text ≡ Err (Form fault)
-
-pub record NetworksArePlain : Type 0 where
-  pub documents : DocumentsDeclare
-  pub texts : TextsDeclare

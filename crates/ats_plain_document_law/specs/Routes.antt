@@ -9,8 +9,8 @@ use Rattle.ats_route_tree.specs.Legs.{DeclaredLegs}
 use Rattle.ats_network_toml.specs.Document.{DeclaredRoute, ends, path}
 use Rattle.ats_network_file.specs.Routes.{legs_of, legs_with, ports_of, ports_onward}
 
--- ports lead onward from a node where the first goes to the node with the first name, and the others onward from there
--- through those with the other names
+-- through no names no ports lead onward from a node; through some do those of which the first goes to the node with the
+-- first name, and the others onward from there through those with the other names
 pub record PortsLeadOnward : Type 0 where
   pub no_name : (t : DeclaredTopology) (a : ℕ) → ports_onward t a [] ≡ Some []
   pub name : (t : DeclaredTopology) (a : ℕ) (name : List ℕ) (names : List (List ℕ)) (ports : List ℕ)
@@ -29,8 +29,9 @@ LeadBy t (ends from to) ports =
     (a : ℕ) × (b : ℕ) × (place_of from (names_of t.nodes) ≡ Some a) × (place_of to (names_of t.nodes) ≡ Some b)
     × (shortest_of t a b ≡ Some ports)
 
--- and legs are those of a tree that has these ports, route by route
-pub record RoutesArePlain : Type 0 where
+-- so it is of the ports of a route; and the legs of routes are those of a tree that has the ports of each, in their
+-- order
+pub record RoutesAreDeclared : Type 0 where
   pub onward : PortsLeadOnward
   pub ports : (t : DeclaredTopology) (route : DeclaredRoute) (ports : List ℕ) → ports_of t route ≡ Some ports
       ↔ LeadBy t route ports

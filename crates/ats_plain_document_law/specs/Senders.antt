@@ -25,8 +25,8 @@ use Rattle.ats_network_file.specs.declared.fault.NetFault.TheVariants.{SenderTwi
 use Rattle.ats_network_file.specs.declared.senders.Place.{Place}
 use Rattle.ats_network_file.specs.declared.senders.SenderTable.TheVariants.{Flow, LinkLocal, LinkLocalFlow, Stream}
 
--- a stream has the name and the numbers of its entry, the ports and the branches of its legs, and a class for each of
--- them; a flow the name and the greatest octets of its entry, and its path
+-- a stream has the name, the numbers and the identity of its entry, the ports and the branches of its legs, and a class
+-- for each of these ports; a flow the name and the greatest octets of its entry, and its path
 pub record SendersAreOfEntries : Type 0 where
   pub name : (legs : DeclaredLegs) (e : file.DeclaredStream) → (stream_over legs e).name ≡ e.name
   pub ports : (legs : DeclaredLegs) (e : file.DeclaredStream) → (stream_over legs e).ports ≡ legs.ports
@@ -113,7 +113,8 @@ pub record FlowsAreAdded : Type 0 where
       → flow_push_fault network (flow_over path e) ≡ None
       → flow_added f network place e ≡ Ok (with_flow network (flow_over path e))
 
--- a name or an identity that an earlier sender has is told with the place of the later one, and a limit with its table
+-- a name that an earlier sender has is told with the table and the number of the later one, an identity with its
+-- number, and a limit with its table
 pub record RefusalsAreTold : Type 0 where
   pub name : (place : Place) → refusal_of place NameTaken ≡ SenderTwice place.table place.number
   pub identity : (place : Place) → refusal_of place IdentityTaken ≡ IdentityTwice place.number
@@ -131,7 +132,7 @@ pub record AddedInTurn (E : Type 0) : Type 0 where
       (e : Place × E) (entries : List (Place × E)) → all_added added network (e ∷ entries)
       ≡ (added network e.0 e.1 >>= λ next. all_added added next entries)
 
-pub record SendersArePlain : Type 0 where
+pub record SendersAreDeclared : Type 0 where
   pub entries : SendersAreOfEntries
   pub order : SendersAreInOrder
   pub streams : StreamsAreAdded

@@ -14,37 +14,15 @@ use Rattle.ats_network_table.specs.declared.format.Format.TheVariants.{One, Thre
 use Rattle.ats_network_table.specs.declared.key.Key.{Key}
 use Rattle.ats_network_table.specs.declared.key.Key.TheVariants as key
 use Rattle.ats_network_table.specs.declared.table.Table.{Table}
-use Rattle.ats_network_table.specs.declared.table.Table.TheVariants.{Bridge, Flow, Link, LinkLocal, LinkLocalFlow}
-use Rattle.ats_network_table.specs.declared.table.Table.TheVariants.{Station, Stream, Top}
+use Rattle.ats_network_table.specs.declared.table.Table.TheVariants.{Stream, Top}
 
--- the keys of each table, in the order in which one that is missing is looked for: in format 3 there are tables for
--- each port, streams with several paths and bridges with a clock, and before format 2 one processing time
+-- the keys of the top table and of a stream's in format 2, which are those of format 1; and those of the least and the
+-- greatest processing time of a bridge: before format 2 both are one number, with one key
 pub record TablesHaveKeys : Type 0 where
-  pub top_one : keys_of One Top ≡ key.Format ∷ key.Station ∷ key.Bridge ∷ key.Link ∷ key.Stream ∷ key.Flow ∷ []
   pub top_two : keys_of Two Top ≡ key.Format ∷ key.Station ∷ key.Bridge ∷ key.Link ∷ key.Stream ∷ key.Flow ∷ []
-  pub top_three : keys_of Three Top
-      ≡ key.Format ∷ key.Station ∷ key.Bridge ∷ key.Link ∷ key.Stream ∷ key.LinkLocal ∷ key.Flow ∷ key.LinkLocalFlow
-      ∷ []
-  pub station : (f : Format) → keys_of f Station ≡ key.Name ∷ []
-  pub bridge_one : keys_of One Bridge ≡ key.Name ∷ key.ProcessingNs ∷ key.ResidenceNs ∷ []
-  pub bridge_two : keys_of Two Bridge
-      ≡ key.Name ∷ key.ProcessingMinNs ∷ key.ProcessingMaxNs ∷ key.ResidenceNs ∷ []
-  pub bridge_three : keys_of Three Bridge
-      ≡ key.Name ∷ key.ProcessingMinNs ∷ key.ProcessingMaxNs ∷ key.ResidenceNs ∷ key.ClockPpm ∷ key.ClockStepPs ∷ []
-  pub link : (f : Format) → keys_of f Link ≡ key.A ∷ key.B ∷ key.Mbps ∷ key.PropagationNs ∷ []
-  pub stream_one : keys_of One Stream
-      ≡ key.Name ∷ key.Path ∷ key.From ∷ key.To ∷ key.Class ∷ key.Classes ∷ key.RateBps ∷ key.BurstBits
-      ∷ key.MinOctets ∷ key.MaxOctets ∷ key.DeadlineNs ∷ key.Address ∷ key.Vlan ∷ []
   pub stream_two : keys_of Two Stream
       ≡ key.Name ∷ key.Path ∷ key.From ∷ key.To ∷ key.Class ∷ key.Classes ∷ key.RateBps ∷ key.BurstBits
       ∷ key.MinOctets ∷ key.MaxOctets ∷ key.DeadlineNs ∷ key.Address ∷ key.Vlan ∷ []
-  pub stream_three : keys_of Three Stream
-      ≡ key.Name ∷ key.Path ∷ key.Paths ∷ key.From ∷ key.To ∷ key.Class ∷ key.Classes ∷ key.RateBps ∷ key.BurstBits
-      ∷ key.MinOctets ∷ key.MaxOctets ∷ key.DeadlineNs ∷ key.Address ∷ key.Vlan ∷ []
-  pub link_local : (f : Format) → keys_of f LinkLocal
-      ≡ key.Name ∷ key.Class ∷ key.RateBps ∷ key.BurstBits ∷ key.MinOctets ∷ key.MaxOctets ∷ key.DeadlineNs ∷ []
-  pub flow : (f : Format) → keys_of f Flow ≡ key.Name ∷ key.Path ∷ key.From ∷ key.To ∷ key.MaxOctets ∷ []
-  pub link_local_flow : (f : Format) → keys_of f LinkLocalFlow ≡ key.Name ∷ key.MaxOctets ∷ []
   pub least_one : least_processing_key One ≡ key.ProcessingNs
   pub least_two : least_processing_key Two ≡ key.ProcessingMinNs
   pub least_three : least_processing_key Three ≡ key.ProcessingMinNs
@@ -53,7 +31,8 @@ pub record TablesHaveKeys : Type 0 where
   pub greatest_three : greatest_processing_key Three ≡ key.ProcessingMaxNs
 
 -- a table may have several listeners where it is that of a stream in format 3, and a list of classes where it is that
--- of a stream; a bridge may have a clock in format 3
+-- of a stream; a bridge may have a clock in format 3. A table has several paths, or a list of classes, where it may
+-- have them and they stand in it
 pub record SomeMayHaveMore : Type 0 where
   pub branch : (f : Format) (t : Table) → IsTrue (may_branch f t) ↔ ((f ≡ Three) × (t ≡ Stream))
   pub list : (t : Table) → IsTrue (lists_classes t) ↔ (t ≡ Stream)
@@ -67,7 +46,8 @@ keys_told no_members = []
 keys_told (member text d ms) = text ∷ keys_told ms
 
 -- a table has a fault of form where a key is missing, and it tells the first of them; else where it has a key that is
--- not its own; and else it is well formed. Each fault names the table and its number
+-- not its own; and else it is well formed. Each fault names the table and its number; and so does that of a key whose
+-- value is of a wrong kind
 pub record FormsAreJudged : Type 0 where
   pub unknown : (ks : List Key) (ms : Members) → has_unknown ks ms
       ≡ list_any (λ text. not (is_known ks text)) (keys_told ms)
@@ -85,8 +65,9 @@ number_of One = 1
 number_of Two = 2
 number_of Three = 3
 
--- the top table has the number 0, and its keys are those of the format whose number stands in it, and of format 1 where
--- none does. A file is of this format, and of none where what stands there is no number of 1 to 3
+-- the top table has the number 0 and all that stands in the file, and it is read as one of the format whose number
+-- stands in it, and of format 1 where none does; 1 and 2 stand for formats 1 and 2, and any other number for 3. A file
+-- is of this format, and of none where what stands there is no number of 1 to 3
 pub record TopsAreRead : Type 0 where
   pub format : (tree : Members) → (top_of tree).format
       ≡ format_of (unwrap_or (option_and_then (whole_in 1 3) (get_member (codes "format") tree)) 1)
@@ -98,7 +79,7 @@ pub record TopsAreRead : Type 0 where
   pub not_given : (top : Entry) (fault : DocumentFault) → format_at top ≡ Err fault
       ↔ (whole_at top key.Format 1 3 ≡ Err fault)
 
-pub record TablesArePlain : Type 0 where
+pub record TablesAreDeclared : Type 0 where
   pub keys : TablesHaveKeys
   pub more : SomeMayHaveMore
   pub forms : FormsAreJudged

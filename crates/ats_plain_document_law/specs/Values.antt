@@ -18,8 +18,8 @@ abbrev pub ListsAreRead : Type 0 → Type 0
 ListsAreRead A = (kind : Data → Option A) (d : Data) (xs : List A) → list_in kind d ≡ Some xs
     ↔ ((items : Items) × (as_array d ≡ Some items) × AllZip (λ i x. kind i ≡ Some x) (items_told items) xs)
 
--- of numbers, of names or tables, and of lists of names
-pub record ValuesArePlain : Type 0 where
+-- so it is of whole numbers, and of lists of numbers, of names, of lists of names, and of tables
+pub record ValuesAreDeclared : Type 0 where
   pub wholes : WholesAreRanged
   pub numbers : ListsAreRead ℕ
   pub names : ListsAreRead (List ℕ)

@@ -3,9 +3,9 @@ use Rattle.ats_num.specs.Failure.{◌>>=◌}
 use Rattle.ats_io.specs.Text.{words_of}
 use Rattle.ats_words.specs.Words.{is_skipped}
 use Rattle.ats_request_file.specs.Reading.{asked_in, requests_from}
-use Rattle.ats_plain_file_law.specs.Asked.{AskedIsPlain, PathsArePlain, RequestFilesArePlain}
+use Rattle.ats_plain_file_law.specs.Asked.{RequestLinesAreRead}
 
--- What a request file asks, line by line.
+-- The requests of further lines.
 
 -- a line that is passed over, or gives a request or a fault
 each_way : {A B D F : Type 0} (skips : Bool) (before : A) (asked : Result B F) (with : B → A) (k : A → Result D F)
@@ -15,17 +15,9 @@ each_way true before asked with k = refl
 each_way false before (Ok request) with k = refl
 each_way false before (Err e) with k = refl
 
-files : RequestFilesArePlain
-files = record {
-  text = λ network text. refl;
-  end = λ network requests n. refl;
+pub request_lines_are_read : RequestLinesAreRead
+request_lines_are_read = record {
   next = λ network requests n line lines.
       each_way (is_skipped line) requests (asked_in network (length requests) n (words_of line))
       (λ request. requests ++ request ∷ []) (λ more. requests_from network more (n + 1) lines);
 }
-
-paths : PathsArePlain
-paths = record { path = λ topology n words. refl }
-
-pub asked_is_plain : AskedIsPlain
-asked_is_plain = record { paths = paths; files = files }

@@ -4,7 +4,7 @@ use Rattle.std.proofs.lemmas.Bool.Decides.{nat_tests}
 use Rattle.ats_num.specs.Failure.{◌>>=◌, ok_where}
 use Rattle.ats_capture.specs.Traffic.{ports_with, with_release, with_stream}
 use Rattle.ats_capture.specs.declared.fault.JoinFault.TheVariants.{Limit}
-use Rattle.ats_plain_file_law.specs.Captures.{CapturesArePlain, CapturesAreTold, RecordsArePlain, TrafficIsPlain}
+use Rattle.ats_plain_file_law.specs.Captures.{CaptureRecordsAreRead, RecordsAreRead}
 
 -- What the records of a capture come to, one by one.
 
@@ -27,7 +27,7 @@ where_true test a b is = ap (λ (t : Bool). cond t a b) is
 pub where_false : {A : Type 0} (test : Bool) (a b : A) → test ≡ false → cond test a b ≡ b
 where_false test a b is = ap (λ (t : Bool). cond t a b) is
 
-records : RecordsArePlain
+records : RecordsAreRead
 records = record {
   none = λ network station nanos traffic r is.
       ap (λ (stream : Option ℕ). with_stream network nanos traffic r.octets stream) is;
@@ -42,23 +42,11 @@ records = record {
       (record { at = record { 0 = nanos * 1000 }; sender = sender; octets = r.octets }) (with_release traffic);
 }
 
-traffic : TrafficIsPlain
-traffic = record {
+pub capture_records_are_read : CaptureRecordsAreRead
+capture_records_are_read = record {
+  records = records;
   no_record = refl;
   first = λ r records. refl;
-  all = λ network station records. refl;
-  end = λ network station first latest traffic. refl;
   next = λ network station first latest traffic r records. refl;
-}
-
-told : CapturesAreTold
-told = record {
-  counts = λ traffic. refl;
-  failed = refl;
-  too_long = refl;
   capture = λ fault. refl;
-  limit = λ n. refl;
 }
-
-pub captures_are_plain : CapturesArePlain
-captures_are_plain = record { records = records; traffic = traffic; told = told }

@@ -1,11 +1,11 @@
-use Rattle.std.proofs.Common.{◌≡◌, ◌∙◌, ℕ, suc, ◌-◌, ◌&&◌, Bool, true, false, cond, List, [], ◌∷◌, length, take}
-use Rattle.std.proofs.Common.{ap, arith, refl, sym}
+use Rattle.std.proofs.Common.{◌≡◌, ◌∙◌, ℕ, suc, ◌-◌, ◌&&◌, Bool, true, false, cond, List, [], ◌∷◌, length, take, ap}
+use Rattle.std.proofs.Common.{arith, refl, sym}
 use Rattle.std.specs.Prelude.{◌==◌, slice_index}
 use Rattle.std.specs.List.{onto_first, slice_split}
 use Rattle.std.specs.Str.Lines.{lines_of_parts, strip_carriage_return}
 use Rattle.std.proofs.lemmas.Bool.Decides.{nat_tests}
 use Rattle.ats_io.specs.Text.{lines_of}
-use Rattle.ats_plain_file_law.specs.Cuts.{CutsArePlain}
+use Rattle.ats_plain_file_law.specs.Cuts.{TextLinesAreRead}
 
 -- The lines of a text, byte by byte.
 
@@ -31,7 +31,7 @@ in_front b c line =
     by true = refl
     by false = refl
 
-some_is : (n : ℕ) → (suc n == 0) ≡ false
+pub some_is : (n : ℕ) → (suc n == 0) ≡ false
 some_is n = grind (arith, nat_tests)
 
 -- two bytes in front of pieces are both of the first line
@@ -136,5 +136,5 @@ more b text = by (b == 10)
     by true = line_behind [] (cut text) (cut_has_first text)
     by false = no_feed b text
 
-pub cuts_are_plain : CutsArePlain
-cuts_are_plain = record { none = refl; more = more }
+pub text_lines_are_read : TextLinesAreRead
+text_lines_are_read = record { more = more }

@@ -1,8 +1,10 @@
 pub mod ReadProofs
 pub mod CutProofs
+pub mod WordProofs
 pub mod ShapeProofs
 pub mod ReportProofs
 pub mod AskedProofs
 pub mod TableProofs
 pub mod CaptureProofs
 pub mod PositionProofs
+pub mod StreamFaultProofs

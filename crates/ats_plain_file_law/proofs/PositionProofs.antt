@@ -1,17 +1,15 @@
-use Rattle.std.proofs.Common.{◌≡◌, ◌∙◌, ℕ, ◌<◌, ◌≤◌, true, false, List, Option, Some, None, Result, Err}
-use Rattle.std.proofs.Common.{ap, arith, refl}
+use Rattle.std.proofs.Common.{◌≡◌, ◌∙◌, ℕ, ◌<◌, ◌≤◌, true, false, List, Option, Some, None, Result, Err, ap, arith}
+use Rattle.std.proofs.Common.{refl}
 use Rattle.std.specs.Prelude.{length, nat_lt}
 use Rattle.std.specs.Option.{option_or}
 use Rattle.std.proofs.lemmas.Bool.Decides.{nat_tests}
 use Rattle.ats_num.specs.Failure.{◌>>=◌}
-use Rattle.ats_pcap.specs.Capture.{first_fault, header_fault, is_whole, link_fault, magic_fault}
-use Rattle.ats_pcap.specs.Capture.{position_of, version_fault}
-use Rattle.ats_pcap.specs.Capture.{without}
+use Rattle.ats_pcap.specs.Capture.{first_fault, header_fault, is_whole, link_fault, magic_fault, position_of}
+use Rattle.ats_pcap.specs.Capture.{version_fault, without}
 use Rattle.ats_pcap.specs.declared.fault.CaptureFault.{CaptureFault}
 use Rattle.ats_capture.specs.Reading.{of_file, records_in}
 use Rattle.ats_capture.specs.declared.fault.RecordsFault.TheVariants.{TooLong}
-use Rattle.ats_plain_file_law.specs.Positions.{EndsArePlain, FilesArePlain, PositionsArePlain, ReadingGoesOn}
-use Rattle.ats_plain_file_law.specs.Positions.{StreamFaultsAreCalled}
+use Rattle.ats_plain_file_law.specs.Positions.{CaptureFilesAreRead, EndsAreRead, PositionsAreRead, ReadingGoesOn}
 use Rattle.ats_plain_file_law.proofs.CaptureProofs.{where_false, where_true}
 
 -- Where the bytes of a capture end.
@@ -43,12 +41,11 @@ goes_on = record {
       ∙ where_true (is_whole form (length reach.rest) reach.rest) _ _ whole;
 }
 
-ends : EndsArePlain
+ends : EndsAreRead
 unfolding position_of
 ends = record {
   faulty = λ bytes fault is. refused _ fault _ is;
   faultless = λ bytes is. passed _ _ is;
-  records = λ bytes. refl;
 }
 
 -- a file of so many bytes is short, or long
@@ -58,7 +55,7 @@ is_short bytes within = grind (arith, nat_tests, within)
 is_long : (bytes : List ℕ) → 268435456 < length bytes → nat_lt 268435456 (length bytes) ≡ true
 is_long bytes over = grind (arith, nat_tests, over)
 
-files : FilesArePlain
+files : CaptureFilesAreRead
 unfolding records_in
 files = record {
   read = λ bytes records within is. where_false (nat_lt 268435456 (length bytes)) _ _ (is_short bytes within)
@@ -71,19 +68,5 @@ files = record {
       ∙ ap (λ it. of_file it >>= (λ _. Err TooLong)) is;
 }
 
-called : StreamFaultsAreCalled
-called = record {
-  class = refl;
-  rate = refl;
-  sizes = refl;
-  burst = refl;
-  limit = refl;
-}
-
-pub positions_are_plain : PositionsArePlain
-positions_are_plain = record {
-  goes_on = goes_on;
-  ends = ends;
-  files = files;
-  called = called;
-}
+pub positions_are_read : PositionsAreRead
+positions_are_read = record { goes_on = goes_on; ends = ends; files = files }

@@ -13,7 +13,7 @@ use Rattle.ats_shape.specs.declared.fault.ShapeFault.{ShapeFault}
 use Rattle.ats_shape.specs.declared.fault.ShapeFault.TheVariants.{BadLine, Limit, NameTwice, TimeBack, UnknownName}
 use Rattle.ats_shape.specs.declared.shape.ShapeFrame.{ShapeFrame}
 use Rattle.ats_shape.specs.declared.shape.ShapeStream.{ShapeStream}
-use Rattle.ats_plain_file_law.specs.Shapes.{ShapesArePlain, frame_due, names_so_far, stream_due, time_so_far}
+use Rattle.ats_plain_file_law.specs.Shapes.{ShapeLinesAreRead, frame_due, names_so_far, stream_due, time_so_far}
 
 -- What a shape file declares, line by line.
 
@@ -94,10 +94,8 @@ frame_read draft n words lines =
     next : ShapeFrame → Result DeclaredShape ShapeFault
     next f = shape_from (record draft { frames = draft.frames ++ f ∷ [] }) (n + 1) lines
 
-pub shapes_are_plain : ShapesArePlain
-shapes_are_plain = record {
-  text = λ text. refl;
-  end = λ draft n. refl;
+pub shape_lines_are_read : ShapeLinesAreRead
+shape_lines_are_read = record {
   next = λ draft n line lines.
       each_way (is_skipped line) (is_none draft.residence) (bytes_eq (word (words_of line) 0) (codes "stream"))
       (bytes_eq (word (words_of line) 0) (codes "frame")) _ (residence_line n (words_of line))

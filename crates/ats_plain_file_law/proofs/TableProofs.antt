@@ -1,25 +1,21 @@
 use Rattle.std.proofs.Common.{refl}
 use Rattle.ats_certificate_file.specs.Reading.{header as row_header}
 use Rattle.ats_schedule.specs.Reading.{header as release_header}
-use Rattle.ats_plain_file_law.specs.Tables.{CertificatesArePlain, SchedulesArePlain, TablesArePlain}
+use Rattle.ats_plain_file_law.specs.Tables.{CertificatesAreRead, SchedulesAreRead, TableHeadsAreRead}
 
 -- With which columns certificates and schedules begin.
 
-certificates : CertificatesArePlain
+certificates : CertificatesAreRead
 unfolding row_header
 certificates = record {
-  file = λ topology bytes. refl;
-  none = λ topology. refl;
   first = λ topology first records. refl;
 }
 
-schedules : SchedulesArePlain
+schedules : SchedulesAreRead
 unfolding release_header
 schedules = record {
-  file = λ network bytes. refl;
-  none = λ network. refl;
   first = λ network first records. refl;
 }
 
-pub tables_are_plain : TablesArePlain
-tables_are_plain = record { certificates = certificates; schedules = schedules }
+pub table_heads_are_read : TableHeadsAreRead
+table_heads_are_read = record { certificates = certificates; schedules = schedules }

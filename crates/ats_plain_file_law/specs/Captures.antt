@@ -1,5 +1,5 @@
 use Rattle.std.specs.Prelude.{◌≡◌, ℕ, ◌+◌, ◌-◌, ◌*◌, ◌<◌, ◌≤◌, ◌&&◌, nat_le, nat_lt, max, List, [], ◌∷◌, ◌++◌, length}
-use Rattle.std.specs.Prelude.{codes, decimal, None, Some, Ok}
+use Rattle.std.specs.Prelude.{None, Some, Ok}
 use Rattle.ats_num.specs.Failure.{◌>>=◌, ok_where}
 use Rattle.ats_pcap.specs.FaultText.{fault_text as capture_fault_text}
 use Rattle.ats_pcap.specs.declared.fault.CaptureFault.{CaptureFault}
@@ -7,16 +7,16 @@ use Rattle.ats_pcap.specs.declared.record.Record.{Record}
 use Rattle.ats_network.specs.Network.{DeclaredNetwork}
 use Rattle.ats_network.specs.Senders.{sender_at}
 use Rattle.ats_trace.specs.Releases.{ports_of_frames}
-use Rattle.ats_capture.specs.Counts.{counts_text}
-use Rattle.ats_capture.specs.FaultText.{fault_text, records_fault_text}
-use Rattle.ats_capture.specs.Traffic.{Traffic, first_time, stream_of, traffic_from, traffic_of, with_record}
+use Rattle.ats_capture.specs.FaultText.{records_fault_text}
+use Rattle.ats_capture.specs.Traffic.{Traffic, first_time, stream_of, traffic_from, with_record}
 use Rattle.ats_capture.specs.declared.fault.JoinFault.TheVariants.{Limit}
-use Rattle.ats_capture.specs.declared.fault.RecordsFault.TheVariants.{Capture, Failed, TooLong}
+use Rattle.ats_capture.specs.declared.fault.RecordsFault.TheVariants.{Capture}
 
--- a record that no stream of the station has is counted as such, and one of a stream that is longer than a frame as
--- that; any other makes a release of its stream, at its time in picoseconds, where a run may have it: not past 10^17
--- ps, with at most 200,000 frames, whose routes have 3,200,000 ports together at most
-pub record RecordsArePlain : Type 0 where
+-- each record is counted. One that no stream of the station has is counted as such too, and one of a stream that is
+-- longer than 2000 octets as that; any other makes a release of its stream behind those before it, at its time in
+-- picoseconds, where a run may have it: not past 10^17 ps, with at most 200,000 frames, whose routes have 3,200,000
+-- ports together at most. Else the limit is told with the number of the record, from 1
+pub record RecordsAreRead : Type 0 where
   pub none : (network : DeclaredNetwork) (station nanos : ℕ) (traffic : Traffic) (r : Record)
       → stream_of network station r.identity ≡ None
       → with_record network station nanos traffic r
@@ -36,32 +36,15 @@ pub record RecordsArePlain : Type 0 where
         records = traffic.records + 1;
       })
 
--- the records of a capture are taken one behind the other, each so many nanoseconds after the first as the latest up
--- to it is
-pub record TrafficIsPlain : Type 0 where
+-- a capture begins at the time of its first record, and at 0 where it has none. A record is taken, so many nanoseconds
+-- after the first as the latest up to it is, before those behind it; and a fault of the capture itself is told in its
+-- own words
+pub record CaptureRecordsAreRead : Type 0 where
+  pub records : RecordsAreRead
   pub no_record : first_time [] ≡ 0
   pub first : (r : Record) (records : List Record) → first_time (r ∷ records) ≡ r.nanos
-  pub all : (network : DeclaredNetwork) (station : ℕ) (records : List Record) → traffic_of network station records
-      ≡ traffic_from network station (first_time records) (first_time records)
-      (record { releases = []; records = 0; unidentified = 0; oversize = 0 }) records
-  pub end : (network : DeclaredNetwork) (station first latest : ℕ) (traffic : Traffic)
-      → traffic_from network station first latest traffic [] ≡ Ok traffic
   pub next : (network : DeclaredNetwork) (station first latest : ℕ) (traffic : Traffic) (r : Record)
       (records : List Record) → traffic_from network station first latest traffic (r ∷ records)
       ≡ (with_record network station (max latest r.nanos - first) traffic r
       >>= λ more. traffic_from network station first (max latest r.nanos) more records)
-
--- what is printed of the counts, and of a fault of the file or of a record
-pub record CapturesAreTold : Type 0 where
-  pub counts : (traffic : Traffic) → counts_text traffic
-      ≡ codes "records " ++ decimal traffic.records ++ codes " unidentified " ++ decimal traffic.unidentified
-      ++ codes " oversize " ++ decimal traffic.oversize ++ codes "\n"
-  pub failed : records_fault_text Failed ≡ codes "read-failed"
-  pub too_long : records_fault_text TooLong ≡ codes "too-long"
   pub capture : (fault : CaptureFault) → records_fault_text (Capture fault) ≡ capture_fault_text fault
-  pub limit : (n : ℕ) → fault_text (Limit n) ≡ codes "limit " ++ decimal n
-
-pub record CapturesArePlain : Type 0 where
-  pub records : RecordsArePlain
-  pub traffic : TrafficIsPlain
-  pub told : CapturesAreTold

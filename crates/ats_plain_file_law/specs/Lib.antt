@@ -1,8 +1,10 @@
 pub mod Reads
 pub mod Cuts
+pub mod Words
 pub mod Shapes
 pub mod Reports
 pub mod Asked
 pub mod Tables
 pub mod Captures
 pub mod Positions
+pub mod StreamFaults

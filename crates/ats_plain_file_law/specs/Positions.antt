@@ -1,13 +1,9 @@
-use Rattle.std.specs.Prelude.{◌≡◌, ℕ, zero, suc, ◌<◌, ◌≤◌, true, false, List, [], length, take, drop, Some, None}
-use Rattle.std.specs.Prelude.{Ok, Err, codes}
+use Rattle.std.specs.Prelude.{◌≡◌, ℕ, zero, suc, ◌<◌, ◌≤◌, true, false, List, [], length, take, drop, Some, None, Ok}
+use Rattle.std.specs.Prelude.{Err}
 use Rattle.std.specs.Option.{option_or}
 use Rattle.ats_num.specs.Failure.{◌>>=◌}
-use Rattle.ats_streams.specs.Fault.{text_of}
-use Rattle.ats_streams.specs.declared.fault.StreamFault.TheVariants.{BadClass, BadRate, BadSizes, BurstBelowFrame}
-use Rattle.ats_streams.specs.declared.fault.StreamFault.TheVariants.{Limit}
 use Rattle.ats_pcap.specs.Capture.{Position, Reach, form_of, header_fault, is_whole, link_fault, magic_fault}
-use Rattle.ats_pcap.specs.Capture.{past_record, position_of, read_on, record_fault, records_at, records_of}
-use Rattle.ats_pcap.specs.Capture.{version_fault}
+use Rattle.ats_pcap.specs.Capture.{past_record, position_of, read_on, record_fault, records_of, version_fault}
 use Rattle.ats_pcap.specs.declared.fault.CaptureFault.{CaptureFault}
 use Rattle.ats_pcap.specs.declared.form.Form.{Form}
 use Rattle.ats_pcap.specs.declared.record.Record.{Record}
@@ -15,7 +11,7 @@ use Rattle.ats_capture.specs.Reading.{records_in}
 use Rattle.ats_capture.specs.declared.fault.RecordsFault.TheVariants.{Capture, TooLong}
 
 -- of a capture's header the number at its front is judged first, then its version, and then its link; records are read
--- one behind the other as far as they are whole, up to the first fault, and no further than they are asked for
+-- one behind the other as far as they are whole, up to the first fault, and no more of them than are asked for
 pub record ReadingGoesOn : Type 0 where
   pub header : (bytes : List ℕ) → header_fault bytes
       ≡ option_or (magic_fault bytes) (option_or (version_fault bytes) (link_fault bytes))
@@ -31,9 +27,9 @@ pub record ReadingGoesOn : Type 0 where
       → is_whole form (length reach.rest) reach.rest ≡ true
       → read_on (suc turns) form reach ≡ read_on turns form (past_record form reach)
 
--- the bytes of a capture end with its header's 24 bytes, its whole records, and what there is of the next one, of which
--- 32 bytes tell; its records are those where they end behind a whole one
-pub record EndsArePlain : Type 0 where
+-- bytes whose header has a fault end with that; others with their header's 24 bytes, their whole records, and what
+-- there is of the next one, of which 32 bytes are kept
+pub record EndsAreRead : Type 0 where
   pub faulty : (bytes : List ℕ) (fault : CaptureFault) → header_fault bytes ≡ Some fault
       → position_of bytes ≡ Err fault
   pub faultless : (bytes : List ℕ) → header_fault bytes ≡ None → position_of bytes
@@ -44,11 +40,10 @@ pub record EndsArePlain : Type 0 where
         there = length reach.rest;
         front = take 32 reach.rest;
       }))
-  pub records : (bytes : List ℕ) → records_of bytes ≡ (position_of bytes >>= records_at)
 
--- of a capture's file each fault is the capture's; of more than 2^28 bytes the first so many are judged, and where they
--- have no fault, the file is too long
-pub record FilesArePlain : Type 0 where
+-- of at most 2^28 bytes a capture's file has the records and the fault of the capture; of more the first so many are
+-- judged by where they end, and where they have no fault, the file is too long
+pub record CaptureFilesAreRead : Type 0 where
   pub read : (bytes : List ℕ) (records : List Record) → length bytes ≤ 268435456 → records_of bytes ≡ Ok records
       → records_in bytes ≡ Ok records
   pub refused : (bytes : List ℕ) (fault : CaptureFault) → length bytes ≤ 268435456 → records_of bytes ≡ Err fault
@@ -58,16 +53,7 @@ pub record FilesArePlain : Type 0 where
   pub long_refused : (bytes : List ℕ) (fault : CaptureFault) → 268435456 < length bytes
       → position_of (take 268435456 bytes) ≡ Err fault → records_in bytes ≡ Err (Capture fault)
 
--- by which words the rules are called that a stream breaks
-pub record StreamFaultsAreCalled : Type 0 where
-  pub class : text_of BadClass ≡ codes "bad-class"
-  pub rate : text_of BadRate ≡ codes "bad-rate"
-  pub sizes : text_of BadSizes ≡ codes "bad-sizes"
-  pub burst : text_of BurstBelowFrame ≡ codes "burst-below-frame"
-  pub limit : text_of Limit ≡ codes "limit"
-
-pub record PositionsArePlain : Type 0 where
+pub record PositionsAreRead : Type 0 where
   pub goes_on : ReadingGoesOn
-  pub ends : EndsArePlain
-  pub files : FilesArePlain
-  pub called : StreamFaultsAreCalled
+  pub ends : EndsAreRead
+  pub files : CaptureFilesAreRead

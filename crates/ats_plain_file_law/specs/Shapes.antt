@@ -1,12 +1,11 @@
 use Rattle.std.specs.Prelude.{◌≡◌, ℕ, ◌+◌, ◌-◌, ◌==◌, nat_le, nat_lt, List, [], ◌∷◌, ◌++◌, length, map, slice_index_or}
-use Rattle.std.specs.Prelude.{codes, Some, None, is_none, Result, Ok, Err, if◌then◌else◌}
+use Rattle.std.specs.Prelude.{codes, Some, is_none, Result, Err, if◌then◌else◌}
 use Rattle.std.specs.Str.{bytes_eq}
 use Rattle.ats_num.specs.Failure.{◌>>=◌, ok_where, or_fault}
 use Rattle.ats_num.specs.Places.{place_of}
-use Rattle.ats_io.specs.Text.{lines_of, words_of}
+use Rattle.ats_io.specs.Text.{words_of}
 use Rattle.ats_words.specs.Words.{is_skipped, word}
-use Rattle.ats_shape.specs.Reading.{DraftShape, frame_in, frame_of, residence_in, ruled, shape_from, shape_of}
-use Rattle.ats_shape.specs.Reading.{stream_in}
+use Rattle.ats_shape.specs.Reading.{DraftShape, frame_in, frame_of, residence_in, ruled, shape_from, stream_in}
 use Rattle.ats_shape.specs.declared.fault.ShapeFault.{ShapeFault}
 use Rattle.ats_shape.specs.declared.fault.ShapeFault.TheVariants.{BadLine, Limit, NameTwice, TimeBack, UnknownName}
 use Rattle.ats_shape.specs.declared.shape.ShapeFrame.{ShapeFrame}
@@ -29,8 +28,7 @@ stream_due draft n words = do
   stream ← ruled n named
   ok_where (nat_lt (length draft.streams) 4096) (Limit n) stream
 
--- the frame of a line: a stream has its name, it does not arrive before the last frame, and it is at most the
--- 200,000th
+-- the frame of a line: a stream has its name, it does not arrive before the last frame, and it is at most the 200,000th
 abbrev pub frame_due : DraftShape → ℕ → List (List ℕ) → Result ShapeFrame ShapeFault
 frame_due draft n words = do
   said ← frame_in n words
@@ -38,14 +36,10 @@ frame_due draft n words = do
   frame ← ok_where (nat_le (time_so_far draft) said.at) (TimeBack n) (frame_of said stream)
   ok_where (nat_lt (length draft.frames) 200000) (Limit n) frame
 
--- a shape file declares line by line: the first line that counts is the residence, and each further one by its first
--- word a stream or a frame. Where no line counts, the line behind the last is at fault
-pub record ShapesArePlain : Type 0 where
-  pub text : (text : List ℕ) → shape_of text
-      ≡ shape_from (record { residence = None; streams = []; frames = [] }) 1 (lines_of text)
-  pub end : (draft : DraftShape) (n : ℕ) → shape_from draft n []
-      ≡ (or_fault (BadLine n) draft.residence
-      >>= λ ns. Ok (record { residence_ns = ns; streams = draft.streams; frames = draft.frames }))
+-- what further lines declare behind those before them, by the first of them, up to the first fault: a line that is
+-- passed over declares nothing, the first that counts is the residence, and each further one by its first word a stream
+-- or a frame, or else at fault
+pub record ShapeLinesAreRead : Type 0 where
   pub next : (draft : DraftShape) (n : ℕ) (line : List ℕ) (lines : List (List ℕ)) → shape_from draft n (line ∷ lines)
       ≡ (if is_skipped line then shape_from draft (n + 1) lines
       else if is_none draft.residence

@@ -1,51 +1,63 @@
 //! What the words of files come to in plainer words, for all inputs.
 
-ghost use Rattle.ats_plain_file_law.specs.Asked.{AskedIsPlain};
-ghost use Rattle.ats_plain_file_law.specs.Captures.{CapturesArePlain};
-ghost use Rattle.ats_plain_file_law.specs.Cuts.{CutsArePlain};
-ghost use Rattle.ats_plain_file_law.specs.Positions.{PositionsArePlain};
-ghost use Rattle.ats_plain_file_law.specs.Reads.{ReadsArePlain};
-ghost use Rattle.ats_plain_file_law.specs.Reports.{ReportsArePlain};
-ghost use Rattle.ats_plain_file_law.specs.Shapes.{ShapesArePlain};
-ghost use Rattle.ats_plain_file_law.specs.Tables.{TablesArePlain};
+ghost use Rattle.ats_plain_file_law.specs.Asked.{RequestLinesAreRead};
+ghost use Rattle.ats_plain_file_law.specs.Captures.{CaptureRecordsAreRead};
+ghost use Rattle.ats_plain_file_law.specs.Cuts.{TextLinesAreRead};
+ghost use Rattle.ats_plain_file_law.specs.Positions.{PositionsAreRead};
+ghost use Rattle.ats_plain_file_law.specs.Reads.{FilesAreRead};
+ghost use Rattle.ats_plain_file_law.specs.Reports.{ReportsAreTold};
+ghost use Rattle.ats_plain_file_law.specs.Shapes.{ShapeLinesAreRead};
+ghost use Rattle.ats_plain_file_law.specs.StreamFaults.{StreamFaultsAreCalled};
+ghost use Rattle.ats_plain_file_law.specs.Tables.{TableHeadsAreRead};
+ghost use Rattle.ats_plain_file_law.specs.Words.{LineWordsAreRead};
 
 /// Of which bytes that is asked which is asked of a file, and which reads are one reading of it.
-pub fn reads_are_plain()
-    ensures { ReadsArePlain }
+pub fn files_are_read()
+    ensures { FilesAreRead }
 {}
 
-/// Into which lines a text is cut, byte by byte.
-pub fn cuts_are_plain()
-    ensures { CutsArePlain }
+/// Into which lines a text is cut, by its first byte.
+pub fn text_lines_are_read()
+    ensures { TextLinesAreRead }
 {}
 
-/// What a shape file declares, line by line.
-pub fn shapes_are_plain()
-    ensures { ShapesArePlain }
+/// Into which words a line is cut, by its first byte.
+pub fn line_words_are_read()
+    ensures { LineWordsAreRead }
 {}
 
-/// What is printed for a shape: a line for each frame and the totals, by either regulator.
-pub fn reports_are_plain()
-    ensures { ReportsArePlain }
+/// What the further lines of a shape file declare, by the first of them.
+pub fn shape_lines_are_read()
+    ensures { ShapeLinesAreRead }
 {}
 
-/// What a request file asks, line by line, and between which stations the path of a line leads.
-pub fn asked_is_plain()
-    ensures { AskedIsPlain }
+/// Which frame of a shape has no line, what a stream is that is not there, and on which verdicts
+/// the other regulator reports.
+pub fn reports_are_told()
+    ensures { ReportsAreTold }
 {}
 
-/// With which columns a certificate and a schedule begin.
-pub fn tables_are_plain()
-    ensures { TablesArePlain }
+/// What the further lines of a request file ask, by the first of them.
+pub fn request_lines_are_read()
+    ensures { RequestLinesAreRead }
 {}
 
-/// What each record of a capture comes to at a station, and what is printed of captures.
-pub fn captures_are_plain()
-    ensures { CapturesArePlain }
+/// With which columns a certificate and a schedule begin, and what is read behind them.
+pub fn table_heads_are_read()
+    ensures { TableHeadsAreRead }
 {}
 
-/// Where the bytes of a capture end, record by record, and what its file gives; and by which words the rules are called
-/// that a stream breaks.
-pub fn positions_are_plain()
-    ensures { PositionsArePlain }
+/// What each record of a capture comes to at a station, one behind the other.
+pub fn capture_records_are_read()
+    ensures { CaptureRecordsAreRead }
+{}
+
+/// Where the bytes of a capture end, record by record, and what its file gives.
+pub fn positions_are_read()
+    ensures { PositionsAreRead }
+{}
+
+/// By which words the rules are called that a stream may break.
+pub fn stream_faults_are_called()
+    ensures { StreamFaultsAreCalled }
 {}

@@ -1,4 +1,4 @@
-use Rattle.std.proofs.Common.{◌≡◌, ◌∙◌, ℕ, ◌-◌, ◌<◌, ◌≤◌, Bool, List, [], ◌++◌, Option, Some, None, cond, refl, ap}
+use Rattle.std.proofs.Common.{◌≡◌, ◌∙◌, ℕ, ◌-◌, ◌<◌, ◌≤◌, Bool, List, [], ◌++◌, Option, Some, None, cond, ap}
 use Rattle.std.proofs.Common.{append-nil, append_assoc}
 use Rattle.std.specs.Prelude.{codes, decimal, if◌then◌else◌}
 use Rattle.std.proofs.lemmas.Bool.{le-ltb, lt-ltb}
@@ -11,9 +11,9 @@ use Rattle.ats_explain.specs.declared.parts.Parts.{Parts}
 use Rattle.ats_explain.specs.declared.parts.Stay.{Stay}
 use Rattle.ats_explain.specs.declared.totals.Tightest.{Tightest}
 use Rattle.ats_explain.specs.declared.totals.Totals.{Totals}
-use Rattle.ats_explain_text.specs.Text.{bound_text, counts_text, explain_text, hop_line, kind_text, port_line}
-use Rattle.ats_explain_text.specs.Text.{sender_text, slack_text, stay_text, stream_line, tightest_text, wait_text}
-use Rattle.ats_plain_text_law.specs.Explains.{EndsAreExplained, ExplainIsPlain, HopsAreExplained}
+use Rattle.ats_explain_text.specs.Text.{bound_text, counts_text, hop_line, kind_text, port_line, sender_text}
+use Rattle.ats_explain_text.specs.Text.{slack_text, stay_text, stream_line, tightest_text, wait_text}
+use Rattle.ats_plain_text_law.specs.Explains.{EndsAreExplained, ExplainIsWritten, HopsAreExplained}
 use Rattle.ats_plain_text_law.specs.Explains.{ListenersAreExplained}
 
 -- What `explain` prints.
@@ -86,8 +86,6 @@ in_a_row t port class parts stay =
 hops : HopsAreExplained
 unfolding hop_line
 hops = record {
-  no_sender = refl;
-  sender = λ name. refl;
   to_station = λ t port class parts none. ap (hop_by t port class parts) none
       ∙ in_a_row t port class parts None
       ∙ ap (λ (line : List ℕ). line ++ codes "\n") (append-nil (front t port class parts));
@@ -126,12 +124,9 @@ ends = record {
       (decimal (one.margin.sum - one.margin.deadline)) (codes "\n");
 }
 
-pub explain_is_plain : ExplainIsPlain
-unfolding explain_text
-explain_is_plain = record {
+pub explain_is_written : ExplainIsWritten
+explain_is_written = record {
   listeners = listeners;
   hops = hops;
   ends = ends;
-  stream = λ network s. refl;
-  all = λ network. refl;
 }

@@ -8,7 +8,7 @@ use Rattle.ats_fit.specs.Over.{senders_over}
 use Rattle.ats_fit.specs.declared.measured.Measured.{Measured}
 use Rattle.ats_fit.specs.declared.measured.Sizes.{Sizes}
 use Rattle.ats_fit_text.specs.Text.{burst_text, fit_text, kind_text, sender_line, sizes_text, total_line}
-use Rattle.ats_plain_text_law.specs.Fits.{FitIsPlain, SendersAreMeasured}
+use Rattle.ats_plain_text_law.specs.Fits.{FitIsWritten, SendersAreMeasured}
 
 -- What `fit` prints.
 
@@ -60,8 +60,8 @@ text_is : (network : DeclaredNetwork) (releases : List Release) (measured : List
 unfolding fit_text total_line
 text_is network releases measured = simp append_assoc
 
-pub fit_is_plain : FitIsPlain
-fit_is_plain = record {
+pub fit_is_written : FitIsWritten
+fit_is_written = record {
   senders = senders;
   all = λ network releases text. (
     (λ is. (is.measured, is.are, is.printed ∙ text_is network releases is.measured)),

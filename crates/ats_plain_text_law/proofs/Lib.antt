@@ -4,7 +4,5 @@ pub mod CheckProofs
 pub mod AdmitProofs
 pub mod ReplayProofs
 pub mod ReportProofs
-pub mod BufferProofs
 pub mod FitProofs
-pub mod SettingTableProofs
 pub mod WitnessProofs

@@ -5,9 +5,9 @@ use Rattle.ats_num.specs.declared.time.Ps.{Ps}
 use Rattle.ats_group.specs.declared.verdict.Verdict.{Verdict}
 use Rattle.ats_group.specs.declared.verdict.Verdict.TheVariants.{Eligible, Late, Size}
 use Rattle.ats_trace.specs.HopRecord.{HopRecord}
-use Rattle.ats_replay.specs.Departures.{departures_text, frame_line, hop_line, journey_text, station_line}
+use Rattle.ats_replay.specs.Departures.{departures_text, hop_line}
 use Rattle.ats_replay.specs.Totals.{counts_text, is_late_verdict, is_size_verdict, passes, totals_line}
-use Rattle.ats_plain_text_law.specs.Replays.{EndsAreCounted, HopsArePlain, ReplayIsPlain}
+use Rattle.ats_plain_text_law.specs.Replays.{EndsAreCounted, HopsAreWritten, ReplayIsWritten}
 
 -- What `replay` prints, and counts.
 
@@ -41,33 +41,20 @@ ends = record {
     (λ is. size_last (slice_get hops (length hops - 1)) is),
     (λ is. ap (passes is_size_verdict) is.1 ∙ ap is_size_verdict is.2),
   );
-  frames = λ frames ways. refl;
-  sunk_ways = λ frames ways. refl;
-  late_ways = λ frames ways. refl;
-  oversize_ways = λ frames ways. refl;
 }
 
-hops : HopsArePlain
-unfolding frame_line hop_line
+hops : HopsAreWritten
+unfolding hop_line
 hops = record {
-  frame = λ network n r. refl;
-  not_sent = refl;
-  sent = λ start end. refl;
   eligible = λ t port came at sent. simp append_assoc;
   late = λ t port came at sent. simp append_assoc;
   size = λ t port came sent. refl;
-  sink = λ at. refl;
-  discard = refl;
 }
 
-pub replay_is_plain : ReplayIsPlain
-unfolding station_line journey_text departures_text counts_text totals_line
-replay_is_plain = record {
+pub replay_is_written : ReplayIsWritten
+unfolding departures_text counts_text totals_line
+replay_is_written = record {
   ends = ends;
   hops = hops;
-  leg = λ t path leg. refl;
-  copy = λ t s n leg. refl;
-  journey = λ network n j. refl;
-  totals = λ network run. refl;
   all = λ network run. simp append_assoc;
 }

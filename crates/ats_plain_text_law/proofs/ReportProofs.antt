@@ -6,16 +6,9 @@ use Rattle.ats_network.specs.Network.{DeclaredNetwork}
 use Rattle.ats_replay.specs.Report.{bound_at, bound_of, report_text, summary_text}
 use Rattle.ats_replay.specs.Summary.{place_of}
 use Rattle.ats_replay.specs.Totals.{counts_text, totals_line}
-use Rattle.ats_plain_text_law.specs.Reports.{BoundsAreReported, ListenersAreReported, ReportIsPlain}
-use Rattle.ats_plain_text_law.specs.Reports.{SummariesArePlain}
+use Rattle.ats_plain_text_law.specs.Reports.{BoundsAreReported, ListenersAreReported, ReportIsWritten}
 
 -- What `generate` prints.
-
-summaries : SummariesArePlain
-summaries = record {
-  counts = λ network run sender n. refl;
-  worst = λ network run sender n. refl;
-}
 
 -- a sum that is taken where a test passes
 taken : (b : Bool) (o : Option ℕ) (bound : ℕ) → (if b then o else None) ≡ Some bound → (b ≡ true) × (o ≡ Some bound)
@@ -40,8 +33,6 @@ bounds = record {
         (lt-ltb sender (length network.streams) is.2)
         ∙ is.3),
   );
-  bound = λ bound. refl;
-  no_bound = refl;
 }
 
 listeners : ListenersAreReported
@@ -52,14 +43,12 @@ listeners = record {
   flow = λ network sender is. ap (λ (b : Bool). if b then codes "stream " else codes "flow ")
       (le-ltb sender (length network.streams) is);
   first = λ network sender. refl;
-  further = λ network sender n. simp append_assoc;
   line = λ network of sums sender n. simp append_assoc;
 }
 
-pub report_is_plain : ReportIsPlain
+pub report_is_written : ReportIsWritten
 unfolding report_text counts_text totals_line
-report_is_plain = record {
-  summaries = summaries;
+report_is_written = record {
   bounds = bounds;
   listeners = listeners;
   sender = λ network of sums sender. refl;

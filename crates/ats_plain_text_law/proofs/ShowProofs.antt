@@ -1,5 +1,5 @@
-use Rattle.std.proofs.Common.{◌≡◌, ◌∙◌, ℕ, ◌+◌, ◌-◌, Bool, true, false, List, [], ◌∷◌, ◌++◌, length, Option}
-use Rattle.std.proofs.Common.{append-nil, append_assoc, ap, arith, refl}
+use Rattle.std.proofs.Common.{◌≡◌, ◌∙◌, ℕ, ◌+◌, ◌-◌, Bool, true, false, List, [], ◌∷◌, ◌++◌, length, Option, append-nil}
+use Rattle.std.proofs.Common.{append_assoc, ap, arith, refl}
 use Rattle.std.specs.Prelude.{◌==◌, codes, decimal, if◌then◌else◌}
 use Rattle.std.specs.Fmt.{digits}
 use Rattle.std.specs.List.{enumerate_from, flat_map, list_all, range_with_len}
@@ -16,7 +16,7 @@ use Rattle.ats_network.specs.Sender.{stream_sender}
 use Rattle.ats_network_text.specs.Text.{are_declared, behind_commas, classes_text, committed_text, hop_text}
 use Rattle.ats_network_text.specs.Text.{listener_line, path_text, port_line, rates_line, rates_text, sender_line}
 use Rattle.ats_network_text.specs.Text.{show_text, stream_line, totals_line}
-use Rattle.ats_plain_text_law.specs.Shows.{PortsArePlain, RatesAreShown, SendersAreShown, ShowIsPlain}
+use Rattle.ats_plain_text_law.specs.Shows.{PortsAreWritten, RatesAreShown, SendersAreShown, ShowIsWritten}
 
 -- What `show` prints.
 
@@ -34,7 +34,7 @@ port_by t n port is_one =
 two : (line a b end : List ℕ) → line ++ (a ++ b) ++ end ≡ line ++ a ++ b ++ end
 two line a b end = simp append_assoc
 
-ports : PortsArePlain
+ports : PortsAreWritten
 unfolding port_line
 ports = record {
   name = λ t port. refl;
@@ -121,9 +121,9 @@ by_number : (f : ℕ → List ℕ) (n : ℕ) (branches : List Branch)
 by_number f n [] = refl
 by_number f n (b ∷ branches) = ap (λ (rest : List ℕ). f n ++ rest) (by_number f (n + 1) branches)
 
-pub show_is_plain : ShowIsPlain
+pub show_is_written : ShowIsWritten
 unfolding show_text totals_line
-show_is_plain = record {
+show_is_written = record {
   ports = ports;
   senders = senders;
   rates = rates;

@@ -1,5 +1,4 @@
-use Rattle.std.proofs.Common.{◌≡◌, ◌∙◌, ℕ, suc, ◌-◌, Bool, List, ◌++◌, Option, Some, None, refl, ap, append_assoc}
-use Rattle.std.proofs.Common.{arith}
+use Rattle.std.proofs.Common.{◌≡◌, ◌∙◌, ℕ, suc, ◌-◌, Bool, List, ◌++◌, Option, Some, None, ap, append_assoc, arith}
 use Rattle.std.specs.Prelude.{codes, decimal, if◌then◌else◌, slice_index}
 use Rattle.std.specs.List.{flat_map, zip}
 use Rattle.std.proofs.lemmas.Bool.{ne_eqb}
@@ -8,8 +7,8 @@ use Rattle.ats_network.specs.Network.{DeclaredNetwork}
 use Rattle.ats_network.specs.Senders.{sender_at}
 use Rattle.ats_trace.specs.Ways.{route_to}
 use Rattle.ats_witness.specs.Found.{FoundDelays}
-use Rattle.ats_witness_text.specs.Text.{found_text, hop_line, release_line, title_line, witness_line, witness_text}
-use Rattle.ats_plain_text_law.specs.Witnesses.{FoundLinesArePlain, WitnessIsPlain}
+use Rattle.ats_witness_text.specs.Text.{found_text, hop_line, release_line, title_line, witness_line}
+use Rattle.ats_plain_text_law.specs.Witnesses.{WitnessIsWritten}
 
 -- What `witness` prints.
 
@@ -26,13 +25,6 @@ rows_of_first : (hops releases witness name a b c d e f break : List ℕ)
     ≡ hops ++ releases ++ witness ++ name ++ a ++ b ++ c ++ d ++ e ++ f ++ break
 rows_of_first hops releases witness name a b c d e f break = simp append_assoc
 
-lines : FoundLinesArePlain
-unfolding hop_line release_line
-lines = record {
-  hop = λ t port delay. refl;
-  release = λ network r. refl;
-}
-
 -- what is told of a listener, by the station that it is told with
 abbrev found_by : DeclaredNetwork → ℕ → ℕ → FoundDelays → ℕ → Option (List ℕ) → List ℕ
 found_by network stream n found bound station =
@@ -41,10 +33,9 @@ found_by network stream n found bound station =
     ++ flat_map (release_line network) found.releases
     ++ witness_line (sender_at network stream).name station (slice_index found.delays found.hop) bound
 
-pub witness_is_plain : WitnessIsPlain
-unfolding title_line witness_line found_text witness_text
-witness_is_plain = record {
-  lines = lines;
+pub witness_is_written : WitnessIsWritten
+unfolding title_line witness_line found_text
+witness_is_written = record {
   first = λ network stream found bound.
       rows_of_first (flat_map (hop_line network.topology) (zip (route_to (sender_at network stream) 0) found.delays))
       (flat_map (release_line network) found.releases) (codes "witness ") (sender_at network stream).name
@@ -60,5 +51,4 @@ witness_is_plain = record {
       (flat_map (release_line network) found.releases) (codes "witness ") (codes " delay ")
       (decimal (slice_index found.delays found.hop)) (codes " bound ") (decimal bound) (codes " gap ")
       (decimal (bound - slice_index found.delays found.hop));
-  all = λ network stream founds bound. refl;
 }

@@ -9,8 +9,8 @@ use Rattle.ats_fit.specs.declared.measured.Measured.{Measured}
 use Rattle.ats_fit.specs.declared.measured.Sizes.{Sizes}
 use Rattle.ats_fit_text.specs.Text.{IsFitText, sender_line}
 
--- the line of a stream gives its frames, their least and greatest octets, or `- -` where there are none, and the least
--- burst beside the declared one; that of a flow the same without bursts
+-- the line of a stream gives its name, its frames, their least and greatest octets, or `- -` where there are none, and
+-- the least burst beside the declared one; that of a flow, of which no burst is measured, the same without bursts
 pub record SendersAreMeasured : Type 0 where
   pub flow : (s : Sender) (m : Measured) (sizes : Sizes) → m.burst_bits ≡ None → m.sizes ≡ Some sizes
       → sender_line (s, m)
@@ -30,7 +30,7 @@ pub record SendersAreMeasured : Type 0 where
 
 -- `fit` prints what is measured of releases, sender by sender, and how many releases and streams there are, and how
 -- many senders are over what they declare
-pub record FitIsPlain : Type 0 where
+pub record FitIsWritten : Type 0 where
   pub senders : SendersAreMeasured
   pub all : (network : DeclaredNetwork) (releases : List Release) (text : List ℕ) → IsFitText network releases text
       ↔ ((measured : List Measured) × AreMeasured network releases measured

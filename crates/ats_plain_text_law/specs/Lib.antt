@@ -4,7 +4,5 @@ pub mod Checks
 pub mod Admits
 pub mod Replays
 pub mod Reports
-pub mod Buffers
 pub mod Fits
-pub mod SettingTables
 pub mod Witnesses

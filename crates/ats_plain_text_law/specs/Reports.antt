@@ -1,25 +1,14 @@
-use Rattle.std.specs.Prelude.{◌≡◌, ◌↔◌, ℕ, suc, ◌<◌, ◌≤◌, List, ◌++◌, length, Option, Some, None, codes, decimal}
-use Rattle.std.specs.Prelude.{map, slice_get}
+use Rattle.std.specs.Prelude.{◌≡◌, ◌↔◌, ℕ, ◌<◌, ◌≤◌, List, ◌++◌, length, Option, Some, codes, decimal, slice_get}
 use Rattle.std.specs.List.{flat_map, range_with_len}
-use Rattle.ats_network.specs.Listeners.{station_of}
 use Rattle.ats_network.specs.Network.{DeclaredNetwork, senders_of}
 use Rattle.ats_network.specs.Senders.{sender_at}
 use Rattle.ats_trace.specs.Journey.{Travel}
-use Rattle.ats_trace.specs.Ways.{listener_count, route_to, way_to}
+use Rattle.ats_trace.specs.Ways.{listener_count}
 use Rattle.ats_replay.specs.Report.{bound_of, bound_text, kind_text, listener_line, report_text, sender_lines}
 use Rattle.ats_replay.specs.Report.{title_text}
-use Rattle.ats_replay.specs.Summary.{frames_of, place_of, summary_for, worst_of}
-use Rattle.ats_replay.specs.Totals.{totals_of, totals_on}
+use Rattle.ats_replay.specs.Summary.{place_of, summary_for}
+use Rattle.ats_replay.specs.Totals.{totals_of}
 use Rattle.ats_replay.specs.declared.summary.Summary.{Summary}
-
--- what came of the frames of one sender on their ways to one of its listeners, and the longest time that one took there
-pub record SummariesArePlain : Type 0 where
-  pub counts : (network : DeclaredNetwork) (run : List Travel) (sender n : ℕ)
-      → (summary_for network run sender n).totals
-      ≡ totals_on (length (frames_of run sender))
-      (map (λ j. way_to (sender_at network sender) j n) (frames_of run sender))
-  pub worst : (network : DeclaredNetwork) (run : List Travel) (sender n : ℕ)
-      → (summary_for network run sender n).worst.0 ≡ worst_of (sender_at network sender) n (frames_of run sender)
 
 -- a listener has a bound where sums are given and its sender is a stream: the one at its place among those of all
 -- senders
@@ -28,11 +17,9 @@ pub record BoundsAreReported : Type 0 where
       → (bound_of network sums sender n ≡ Some bound)
       ↔ ((all : List ℕ) × (sums ≡ Some all) × (sender < length network.streams)
       × (slice_get all (place_of network sender n) ≡ Some bound))
-  pub bound : (bound : ℕ) → bound_text (Some bound) ≡ decimal bound
-  pub no_bound : bound_text None ≡ codes "-"
 
--- the first listener of a sender goes by the sender's name, a further one by that and its station; and its line tells
--- what came of the frames for it, the longest time that one took, and the bound
+-- a sender is a stream by its number, or else a flow, and its first listener goes by that and its name; the line of a
+-- listener tells what came of the frames for it, the longest time that one took, and the bound
 pub record ListenersAreReported : Type 0 where
   pub stream : (network : DeclaredNetwork) (sender : ℕ) → sender < length network.streams
       → kind_text network sender ≡ codes "stream "
@@ -40,9 +27,6 @@ pub record ListenersAreReported : Type 0 where
       → kind_text network sender ≡ codes "flow "
   pub first : (network : DeclaredNetwork) (sender : ℕ) → title_text network sender 0
       ≡ kind_text network sender ++ (sender_at network sender).name
-  pub further : (network : DeclaredNetwork) (sender n : ℕ) → title_text network sender (suc n)
-      ≡ codes "listener " ++ (sender_at network sender).name ++ codes " "
-      ++ station_of network.topology (route_to (sender_at network sender) (suc n))
   pub line : (network : DeclaredNetwork) (of : ℕ → ℕ → Summary) (sums : Option (List ℕ)) (sender n : ℕ)
       → listener_line network of sums sender n
       ≡ title_text network sender n ++ codes " frames " ++ decimal (of sender n).totals.frames
@@ -51,8 +35,7 @@ pub record ListenersAreReported : Type 0 where
       ++ codes " bound " ++ bound_text (bound_of network sums sender n) ++ codes "\n"
 
 -- `generate` prints a line for each listener of each sender, and the totals of the run
-pub record ReportIsPlain : Type 0 where
-  pub summaries : SummariesArePlain
+pub record ReportIsWritten : Type 0 where
   pub bounds : BoundsAreReported
   pub listeners : ListenersAreReported
   pub sender : (network : DeclaredNetwork) (of : ℕ → ℕ → Summary) (sums : Option (List ℕ)) (sender : ℕ)

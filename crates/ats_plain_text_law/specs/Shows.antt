@@ -17,9 +17,9 @@ use Rattle.ats_network.specs.Sender.{Sender, stream_sender}
 use Rattle.ats_network_text.specs.Text.{classes_text, flow_line, hop_is_declared, hop_text, is_declared, listener_line}
 use Rattle.ats_network_text.specs.Text.{port_line, rates_line, show_text, stream_line, stream_text}
 
--- a port goes by its two nodes, `FROM>TO`; and its line gives its number, what a bit takes there, and its latency: one
--- number, or two where it may be less
-pub record PortsArePlain : Type 0 where
+-- a port goes by its two nodes, `FROM>TO`; and its line gives its number, this name, what a bit takes there, and its
+-- latency: one number, or two where it may be less
+pub record PortsAreWritten : Type 0 where
   pub name : (t : DeclaredTopology) (port : Port) → name_of t port
       ≡ (node_at t.nodes port.from).name ++ codes ">" ++ (node_at t.nodes port.to).name
   pub by_number : (t : DeclaredTopology) (p : ℕ) → port_name t p
@@ -34,8 +34,9 @@ pub record PortsArePlain : Type 0 where
       ≡ codes "port " ++ decimal n ++ codes " " ++ name_of t port ++ codes " " ++ decimal port.ps_per_bit ++ codes " "
       ++ decimal port.latency.0 ++ codes " " ++ decimal port.earliest.0 ++ codes "\n"
 
--- the line of a stream gives its class and the ports of its trunk, that of a further listener the station and the ports
--- of its branch, and that of a flow the class 0 and its ports; where the classes of a leg differ, each of them is given
+-- the line of a stream gives its name, the class and the ports of its trunk, that of a further listener the name and
+-- the station, the class and the ports of its branch, and that of a flow its name, the class 0 and its ports; where the
+-- classes of a leg differ, each of them is given, and of no ports none
 pub record SendersAreShown : Type 0 where
   pub no_class : classes_text [] ≡ []
   pub classes : (class : ℕ) (classes : List ℕ) → classes_text (class ∷ classes)
@@ -79,8 +80,8 @@ pub record RatesAreShown : Type 0 where
 
 -- `show` prints all ports by number, then each stream with its further listeners and its rates, then the flows, and how
 -- many there are of each
-pub record ShowIsPlain : Type 0 where
-  pub ports : PortsArePlain
+pub record ShowIsWritten : Type 0 where
+  pub ports : PortsAreWritten
   pub senders : SendersAreShown
   pub rates : RatesAreShown
   pub stream : (t : DeclaredTopology) (s : DeclaredStream) → stream_text t s

@@ -1,4 +1,4 @@
-//! What is printed, line by line, written out in the words below.
+//! Lines that are printed, each as a whole, written out in the words below.
 #![tactic(auto)]
 
 pub mod laws;

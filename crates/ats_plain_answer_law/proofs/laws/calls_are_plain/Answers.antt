@@ -1,5 +1,0 @@
-use Rattle.ats_plain_answer_law.proofs.CallProofs.{calls_are_plain}
-use Rattle.ats_plain_answer_law.proofs.laws.calls_are_plain.Goals as goal
-
-pub returns : goal.returns
-returns c = calls_are_plain

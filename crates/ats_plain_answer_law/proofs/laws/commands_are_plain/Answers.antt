@@ -1,5 +1,0 @@
-use Rattle.ats_plain_answer_law.proofs.CommandProofs.{commands_are_plain}
-use Rattle.ats_plain_answer_law.proofs.laws.commands_are_plain.Goals as goal
-
-pub returns : goal.returns
-returns c = commands_are_plain

@@ -1,5 +1,0 @@
-use Rattle.ats_plain_answer_law.proofs.ViewProofs.{views_are_plain}
-use Rattle.ats_plain_answer_law.proofs.laws.views_are_plain.Goals as goal
-
-pub returns : goal.returns
-returns c = views_are_plain

@@ -1,5 +1,0 @@
-use Rattle.ats_plain_document_law.proofs.EntryProofs.{entries_are_plain}
-use Rattle.ats_plain_document_law.proofs.laws.entries_are_plain.Goals as goal
-
-pub returns : goal.returns
-returns c = entries_are_plain

@@ -1,5 +1,0 @@
-use Rattle.ats_plain_document_law.proofs.NetworkProofs.{networks_are_plain}
-use Rattle.ats_plain_document_law.proofs.laws.networks_are_plain.Goals as goal
-
-pub returns : goal.returns
-returns c = networks_are_plain

@@ -1,5 +1,0 @@
-use Rattle.ats_plain_document_law.proofs.RouteProofs.{routes_are_plain}
-use Rattle.ats_plain_document_law.proofs.laws.routes_are_plain.Goals as goal
-
-pub returns : goal.returns
-returns c = routes_are_plain

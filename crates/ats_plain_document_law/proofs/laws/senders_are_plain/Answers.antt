@@ -1,5 +1,0 @@
-use Rattle.ats_plain_document_law.proofs.SenderProofs.{senders_are_plain}
-use Rattle.ats_plain_document_law.proofs.laws.senders_are_plain.Goals as goal
-
-pub returns : goal.returns
-returns c = senders_are_plain

@@ -1,5 +1,0 @@
-use Rattle.ats_plain_document_law.proofs.ValueProofs.{values_are_plain}
-use Rattle.ats_plain_document_law.proofs.laws.values_are_plain.Goals as goal
-
-pub returns : goal.returns
-returns c = values_are_plain

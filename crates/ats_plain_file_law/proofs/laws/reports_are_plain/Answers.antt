@@ -1,5 +1,0 @@
-use Rattle.ats_plain_file_law.proofs.ReportProofs.{reports_are_plain}
-use Rattle.ats_plain_file_law.proofs.laws.reports_are_plain.Goals as goal
-
-pub returns : goal.returns
-returns c = reports_are_plain

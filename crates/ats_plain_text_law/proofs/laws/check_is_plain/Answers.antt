@@ -1,5 +1,0 @@
-use Rattle.ats_plain_text_law.proofs.CheckProofs.{check_is_plain}
-use Rattle.ats_plain_text_law.proofs.laws.check_is_plain.Goals as goal
-
-pub returns : goal.returns
-returns c = check_is_plain

@@ -1,5 +1,0 @@
-use Rattle.ats_plain_text_law.proofs.ExplainProofs.{explain_is_plain}
-use Rattle.ats_plain_text_law.proofs.laws.explain_is_plain.Goals as goal
-
-pub returns : goal.returns
-returns c = explain_is_plain

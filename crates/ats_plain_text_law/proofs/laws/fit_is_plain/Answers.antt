@@ -1,5 +1,0 @@
-use Rattle.ats_plain_text_law.proofs.FitProofs.{fit_is_plain}
-use Rattle.ats_plain_text_law.proofs.laws.fit_is_plain.Goals as goal
-
-pub returns : goal.returns
-returns c = fit_is_plain

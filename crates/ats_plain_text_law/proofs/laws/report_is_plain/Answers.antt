@@ -1,5 +1,0 @@
-use Rattle.ats_plain_text_law.proofs.ReportProofs.{report_is_plain}
-use Rattle.ats_plain_text_law.proofs.laws.report_is_plain.Goals as goal
-
-pub returns : goal.returns
-returns c = report_is_plain

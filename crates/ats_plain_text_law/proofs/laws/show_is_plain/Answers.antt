@@ -1,5 +1,0 @@
-use Rattle.ats_plain_text_law.proofs.ShowProofs.{show_is_plain}
-use Rattle.ats_plain_text_law.proofs.laws.show_is_plain.Goals as goal
-
-pub returns : goal.returns
-returns c = show_is_plain
