@@ -144,13 +144,17 @@ class Definitions:
 
     def __init__(self):
         self.words, self.files, self.imports, self.modules, self.passed_on = {}, {}, {}, {}, {}
-        self.cases, self.fields_of = [*CASES], {}
+        self.cases, self.fields_of, self.constants = [*CASES], {}, {}
         self.crates = sorted(os.listdir(CRATES))
         for crate in self.crates:
             for place, path in files_in(crate, "specs", ".antt"):
                 self.read_file(crate, place[:-5].replace("/", "."), read(path))
-            for _, path in files_in(crate, "src", ".rt"):
-                self.read_types(re.sub(r"//.*", "", read(path)))
+            self.constants[crate] = {}
+            for file, path in files_in(crate, "src", ".rt"):
+                text = re.sub(r"//.*", "", read(path))
+                self.read_types(text)
+                declared = f"{crate}.specs.declared.{file[:-3].replace('/', '.')}.TheConstants"
+                self.constants[crate] |= {it: declared for it in re.findall(r"\bconst ([A-Z][A-Z_0-9]+):", text)}
         self.cases = [it for it in self.cases if it]
         self.uses = {name: self.uses_in(word) for name, word in self.words.items()}
 
@@ -188,6 +192,19 @@ class Definitions:
             self.fields_of.setdefault(name, dict(fields))
         for name, inner in re.findall(rf"\bstruct ({NAME})\(([^)]*)\);", text):
             self.fields_of.setdefault(name, {str(at): it for at, it in enumerate(inner.split(","))})
+
+    def laws(self):
+        """The laws of all crates: functions without parameters, each with where its clauses stand and what they say."""
+        for crate in self.crates:
+            for file, path in files_in(crate, "src", ".rt"):
+                text, place = read(path), (crate, f"src/{file}")
+                self.files[place], self.imports[place] = {}, imported(text, "ghost use")
+                for name in set(re.findall(r"\b[A-Z][A-Z_0-9]+\b", text)) & set(self.constants[crate]):
+                    self.imports[place][name] = self.constants[crate][name], name
+                clause = r"\s*ensures (?:\w+ )?\{[^{}]*\}"
+                for law, clauses in re.findall(rf"pub fn (\w+)\(\)((?:{clause}(?:\s*//[^\n]*)*)+)", text):
+                    found = re.findall(r"ensures (?:\w+ )?\{([^{}]*)\}", clauses)
+                    yield place, f"{crate}::{law}", [tokens(it) for it in found]
 
     def resolve(self, place, word, depth=0):
         """The full name of a word where a file uses it, or None."""

@@ -108,7 +108,7 @@ pub fn runs_are_plain()
     ensures { RunsArePlain }
 {}
 
-/// Which number each constant of the code is that definitions name: units and limits.
+/// Which numbers the constants of networks, runs and made releases are that definitions name.
 pub fn constants_are_plain()
     ensures { ConstantsArePlain }
 {}
