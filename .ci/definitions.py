@@ -152,7 +152,7 @@ class Definitions:
             self.constants[crate] = {}
             for file, path in files_in(crate, "src", ".rt"):
                 text = re.sub(r"//.*", "", read(path))
-                self.read_types(text)
+                self.read_types(crate, text)
                 declared = f"{crate}.specs.declared.{file[:-3].replace('/', '.')}.TheConstants"
                 self.constants[crate] |= {it: declared for it in re.findall(r"\bconst ([A-Z][A-Z_0-9]+):", text)}
         self.cases = [it for it in self.cases if it]
@@ -182,16 +182,16 @@ class Definitions:
                 cases = {it[1] for it in map(re.compile(rf"  (?:pub )?({NAME})\b").match, self.words[name].lines) if it}
                 self.cases.append(cases)
 
-    def read_types(self, text):
+    def read_types(self, crate, text):
         """Takes the cases of the enums and the fields of the structs of one source file."""
         text = re.sub(r"#\[[^\]]*\]", "", text)
         for name, inner in re.findall(rf"\benum ({NAME})(?:<[^>]*>)? \{{(.*?)^\}}", text, re.M | re.S):
             self.cases.append({f"{name}.{it}" for it in re.findall(rf"^    ({NAME})\b", inner, re.M)})
         for name, inner in re.findall(rf"\bstruct ({NAME})(?:<[^>]*>)? \{{(.*?)^\}}", text, re.M | re.S):
             fields = re.findall(rf"^    (?:pub(?:\(crate\))? )?({NAME}): ([^\n]*?),?$", inner, re.M)
-            self.fields_of.setdefault(name, dict(fields))
+            self.fields_of[crate, name] = dict(fields)
         for name, inner in re.findall(rf"\bstruct ({NAME})\(([^)]*)\);", text):
-            self.fields_of.setdefault(name, {str(at): it for at, it in enumerate(inner.split(","))})
+            self.fields_of[crate, name] = {str(at): it for at, it in enumerate(inner.split(","))}
 
     def laws(self):
         """The laws of all crates: functions without parameters, each with where its clauses stand and what they say."""
@@ -317,4 +317,9 @@ class Definitions:
         full = self.resolve((word.crate, word.file), given[0]) if len(given) == 1 else None
         if full in self.words and self.kind(full) == "data" and "record" in self.words[full].lines[0]:
             return {it: " ".join(text) for it, text in self.fields(full)}
-        return self.fields_of.get(given[0], {}) if len(given) == 1 else {}
+        return self.fields_of.get(((full or "").split(".")[0], given[0]), {}) if len(given) == 1 else {}
+
+    def is_wrapper(self, name):
+        """Whether each type of this name has a single field without a name."""
+        found = [it for (_, of), it in self.fields_of.items() if of == name]
+        return bool(found) and all(set(it) == {"0"} for it in found)

@@ -8,6 +8,7 @@ use Rattle.ats_plain_network_law.specs.Regulators.{LastFramesAreKnown, Regulator
 
 last_frames : LastFramesAreKnown
 last_frames = record {
+  first = refl;
   at_first = λ rate. refl;
   accepts = λ state offer e. refl;
 }

@@ -6,13 +6,15 @@ use Rattle.ats_bucket.specs.Conforming.{Frame}
 use Rattle.ats_streams.specs.declared.traffic.Declared.{Declared}
 use Rattle.ats_group.specs.Group.{Offer}
 use Rattle.ats_group.specs.declared.verdict.Verdict.TheVariants.{Eligible}
-use Rattle.ats_lrq.specs.Fold.{State, after}
+use Rattle.ats_lrq.specs.Fold.{State, after, first}
 use Rattle.ats_lrq.specs.Judge.{spacing_rule}
 use Rattle.ats_lrq.specs.Spacing.{IsSpaced, free_from}
 
--- a member of which no frame was accepted yet waits for none; an accepted frame moves the group's time to its own
--- eligibility time and is then the one from which its member's next frame keeps its distance
+-- at first the group's time is 0 and no frame was accepted, and a member of which none was waits for none; an accepted
+-- frame moves the group's time to its own eligibility time and is then the one from which its member's next frame keeps
+-- its distance
 pub record LastFramesAreKnown : Type 0 where
+  pub first : first ≡ record { time = 0; last = λ member. None }
   pub at_first : (rate : ℕ) → free_from rate None ≡ 0
   pub accepts : (state : State) (offer : Offer) (e : Ps) → after state offer (Eligible e) ≡ record {
     time = e.0;

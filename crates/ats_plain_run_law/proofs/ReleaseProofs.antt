@@ -18,6 +18,7 @@ ports : PortsOfFramesAreTraced
 ports = record {
   none = λ network. refl;
   more = λ network r releases. sum_by-cons (λ (one : Release). length (sender_at network one.sender).ports) r releases;
+  few = λ network releases. ((λ is. is), (λ is. is));
 }
 
 ideal : IdealIsTraced

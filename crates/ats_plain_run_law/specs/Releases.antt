@@ -1,9 +1,9 @@
-use Rattle.std.specs.Prelude.{◌≡◌, ◌↔◌, ℕ, ◌+◌, List, [], ◌∷◌, length, map, slice_index_or}
+use Rattle.std.specs.Prelude.{◌≡◌, ◌↔◌, ℕ, ◌+◌, ◌≤◌, List, [], ◌∷◌, length, map, slice_index_or}
 use Rattle.ats_network.specs.Network.{DeclaredNetwork}
 use Rattle.ats_network.specs.Senders.{sender_at}
 use Rattle.ats_group.specs.Judge.{ats_judge}
 use Rattle.ats_trace.specs.Journey.{Travel}
-use Rattle.ats_trace.specs.Releases.{ports_of_frames}
+use Rattle.ats_trace.specs.Releases.{HaveFewPorts, ports_of_frames}
 use Rattle.ats_trace.specs.Run.{HasReleases, IsIdeal, IsLegalBy, releases_of}
 use Rattle.ats_trace.specs.Stored.{travel_at}
 use Rattle.ats_trace.specs.declared.journey.Ending.TheVariants.{Discard}
@@ -23,12 +23,15 @@ pub record FramesOfRunsAreTraced : Type 0 where
         copies = [];
       })
 
--- each release has the ports of its sender, those of its branches too, and they are counted together
+-- each release has the ports of its sender, those of its branches too, and they are counted together: in whatever order
+-- the releases stand, a run may have 3,200,000
 pub record PortsOfFramesAreTraced : Type 0 where
   pub none : (network : DeclaredNetwork) → ports_of_frames network [] ≡ 0
   pub more : (network : DeclaredNetwork) (r : Release) (releases : List Release)
       → ports_of_frames network (r ∷ releases)
       ≡ length (sender_at network r.sender).ports + ports_of_frames network releases
+  pub few : (network : DeclaredNetwork) (releases : List Release) → HaveFewPorts network releases
+      ↔ (ports_of_frames network releases ≤ 3200000)
 
 -- a run by true time is ideal where it is legal with groups that judge as those of Asynchronous Traffic Shaping do
 abbrev pub IdealIsTraced : Type 0
