@@ -8,3 +8,4 @@ pub mod TableProofs
 pub mod CaptureProofs
 pub mod PositionProofs
 pub mod StreamFaultProofs
+pub mod OutsideProofs

@@ -8,3 +8,4 @@ pub mod Tables
 pub mod Captures
 pub mod Positions
 pub mod StreamFaults
+pub mod Outside

@@ -3,6 +3,7 @@
 ghost use Rattle.ats_plain_file_law.specs.Asked.{RequestLinesAreRead};
 ghost use Rattle.ats_plain_file_law.specs.Captures.{CaptureRecordsAreRead};
 ghost use Rattle.ats_plain_file_law.specs.Cuts.{TextLinesAreRead};
+ghost use Rattle.ats_plain_file_law.specs.Outside.{GoesOn};
 ghost use Rattle.ats_plain_file_law.specs.Positions.{PositionsAreRead};
 ghost use Rattle.ats_plain_file_law.specs.Reads.{FilesAreRead};
 ghost use Rattle.ats_plain_file_law.specs.Reports.{ReportsAreTold};
@@ -10,6 +11,8 @@ ghost use Rattle.ats_plain_file_law.specs.Shapes.{ShapeLinesAreRead};
 ghost use Rattle.ats_plain_file_law.specs.StreamFaults.{StreamFaultsAreCalled};
 ghost use Rattle.ats_plain_file_law.specs.Tables.{TableHeadsAreRead};
 ghost use Rattle.ats_plain_file_law.specs.Words.{LineWordsAreRead};
+
+use ats_io::Files;
 
 /// Of which bytes that is asked which is asked of a file, and which reads are one reading of it.
 pub fn files_are_read()
@@ -60,4 +63,9 @@ pub fn positions_are_read()
 /// By which words the rules are called that a stream may break.
 pub fn stream_faults_are_called()
     ensures { StreamFaultsAreCalled }
+{}
+
+/// When files go on from one state to another, of whichever kind they are.
+pub fn outside_goes_on<F: Files>()
+    ensures { GoesOn F.told F.faults }
 {}
