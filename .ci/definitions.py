@@ -197,12 +197,13 @@ class Definitions:
         """The laws of all crates: functions without parameters, each with where its clauses stand and what they say."""
         for crate in self.crates:
             for file, path in files_in(crate, "src", ".rt"):
-                text, place = read(path), (crate, f"src/{file}")
+                text = re.sub(r"/\*.*?\*/|//[^\n]*", "", read(path), flags=re.S)
+                place = crate, f"src/{file}"
                 self.files[place], self.imports[place] = {}, imported(text, "ghost use")
                 for name in set(re.findall(r"\b[A-Z][A-Z_0-9]+\b", text)) & set(self.constants[crate]):
                     self.imports[place][name] = self.constants[crate][name], name
                 clause = r"\s*ensures (?:\w+ )?\{[^{}]*\}"
-                for law, clauses in re.findall(rf"pub fn (\w+)\(\)((?:{clause}(?:\s*//[^\n]*)*)+)", text):
+                for law, clauses in re.findall(rf"pub fn (\w+)\(\)((?:{clause})+)(?!\s*requires)", text):
                     found = re.findall(r"ensures (?:\w+ )?\{([^{}]*)\}", clauses)
                     yield place, f"{crate}::{law}", [tokens(it) for it in found]
 
