@@ -1,11 +1,12 @@
-use Rattle.std.proofs.Common.{◌≡◌, ◌⊎◌, inl, inr, refl, sym, subst}
+use Rattle.std.proofs.Common.{◌≡◌, ◌⊎◌, ℕ, List, Option, inl, inr, refl, sym, subst}
 use Rattle.ats_command_input.specs.Answer.{HasText}
 use Rattle.ats_command_input.specs.declared.status.Status.{Status}
 use Rattle.ats_command_input.specs.declared.status.Status.TheVariants.{Done, Input, NoMemory, ReadFailed, Refused}
 use Rattle.ats_command_input.specs.declared.status.Status.TheVariants.{Words, WriteFailed}
 use Rattle.ats_command_due.specs.Due.{IsAnswer, told_bytes}
 use Rattle.ats_plain_answer_law.specs.Calls.{CallsAreAnswered, CallsReadFiles, OutcomesAreAnswered, PromisesArePrinted}
-use Rattle.ats_plain_answer_law.specs.Calls.{TextsArePrinted}
+use Rattle.ats_plain_answer_law.specs.Calls.{ReadsAsAsked, TextsArePrinted}
+use Rattle.ats_io.specs.Reads.{Read}
 
 -- What a call did: what it printed, what it promises of that, and what it read.
 
@@ -72,18 +73,20 @@ printing = record {
 promises : PromisesArePrinted
 promises = record { printed = λ told command old new. (λ is. is, λ is. is) }
 
+pub files_are_asked : {S : Type 0} (told : S → List ℕ → Option (List ℕ)) (faults : S → List ℕ → ℕ)
+    (made : S → List Read) → ReadsAsAsked told faults made
+files_are_asked told faults made command old new result = (
+  λ is. (is.failed, is.calm, is.continues, is.in_turn),
+  λ is. record {
+    failed = is.0;
+    calm = is.1;
+    continues = is.2;
+    in_turn = is.3;
+  },
+)
+
 reading : CallsReadFiles
-reading = record {
-  reads = λ told faults made command old new result. (
-    λ is. (is.failed, is.calm, is.continues, is.in_turn),
-    λ is. record {
-      failed = is.0;
-      calm = is.1;
-      continues = is.2;
-      in_turn = is.3;
-    },
-  );
-}
+reading = record { reads = λ told faults made. files_are_asked told faults made }
 
 pub calls_are_answered : CallsAreAnswered
 calls_are_answered = record {

@@ -57,9 +57,16 @@ pub record PromisesArePrinted : Type 0 where
       → PrintsAsPromised told command old new
       ↔ ((text : List ℕ) × (new ≡ appended old text) × Promises told command text)
 
--- a command that reads its files stops with ReadFailed only where a fault came at one that it comes to, and else no
--- count of faults changed; the outside, whose states have numbers here, goes on; and its files were read in turn, and
--- no others
+-- a command that reads its files, of whichever kind they are, stops with ReadFailed only where a fault came at one that
+-- it comes to, and else no count of faults changed; the outside goes on; and its files were read in turn, and no others
+abbrev pub ReadsAsAsked : {S : Type 0} → (S → List ℕ → Option (List ℕ)) → (S → List ℕ → ℕ) → (S → List Read) → Type 0
+ReadsAsAsked {S} told faults made = (command : Command) (old new : S) (result : Result (Vec ℕ) Stop)
+    → ReadsFiles told faults made command old new result
+    ↔ ((IsErrOf result ReadFailed → ReadRose (told old) command (faults old) (faults new))
+    × ((¬ IsErrOf result ReadFailed) → faults new ≡ faults old) × Continues told faults old new
+    × ReadsInTurn (file_words command) (made old) (made new))
+
+-- the same, where the states of the outside have numbers
 pub record CallsReadFiles : Type 0 where
   pub reads : (told : ℕ → List ℕ → Option (List ℕ)) (faults : ℕ → List ℕ → ℕ) (made : ℕ → List Read)
       (command : Command) (old new : ℕ) (result : Result (Vec ℕ) Stop)

@@ -1,7 +1,7 @@
 //! Which answer is due to each command, and what a call did, case by case, for all inputs.
 
 ghost use Rattle.ats_plain_answer_law.specs.Bounds.{BoundsAreAnswered};
-ghost use Rattle.ats_plain_answer_law.specs.Calls.{CallsAreAnswered};
+ghost use Rattle.ats_plain_answer_law.specs.Calls.{CallsAreAnswered, ReadsAsAsked};
 ghost use Rattle.ats_plain_answer_law.specs.Commands.{CommandsAreAnswered};
 ghost use Rattle.ats_plain_answer_law.specs.Files.{InputsAreTaken};
 ghost use Rattle.ats_plain_answer_law.specs.Judged.{JudgingIsAnswered};
@@ -9,6 +9,8 @@ ghost use Rattle.ats_plain_answer_law.specs.Named.{NamesAreAnswered};
 ghost use Rattle.ats_plain_answer_law.specs.Runs.{RunsAreAnswered};
 ghost use Rattle.ats_plain_answer_law.specs.Verbs.{VerbsAreNamed};
 ghost use Rattle.ats_plain_answer_law.specs.Views.{ViewsAreNamed};
+
+use ats_io::Files;
 
 /// What is taken from each kind of file by its bytes, and with which line it is not.
 pub fn inputs_are_taken()
@@ -55,4 +57,9 @@ pub fn views_are_named()
 /// Which command words name, by their number and byte for byte.
 pub fn verbs_are_named()
     ensures { VerbsAreNamed }
+{}
+
+/// When a command has read its files as it is asked to, of whichever kind they are.
+pub fn files_are_asked<F: Files>()
+    ensures { ReadsAsAsked F.told F.faults F.reads }
 {}

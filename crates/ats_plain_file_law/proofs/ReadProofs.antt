@@ -51,6 +51,7 @@ each_begins name from (one ∷ reads) each =
 pub files_are_read : FilesAreRead
 files_are_read = record {
   asked = asked;
+  last_place = refl;
   reading = λ name from reads. (
     (λ is before read behind same. begins name from before read behind (subst (IsReading name from) same is)),
     (λ each. each_begins name from reads each),
